@@ -36,7 +36,8 @@ static const char usage[] =
     "over the internet:\n"
     "  --broker URL  where friends meet (nats://127.0.0.1:4222)      --trusted FILE  certificates by which it is believed\n"
     "  --stun ADDRESS[:PORT]  --relay USER:PASSWORD@ADDRESS[:PORT]  --tcp-relay the same, by TCP  --relay-only\n"
-    "  --name NAME   as friends see it                               --ask           who joins has to be let in\n";
+    "  --name NAME   as friends see it                               --ask           who joins has to be let in\n"
+    "  --door        the broker has a door: codes are short, who joins has to be let in, and relays are the door's\n";
 
 enum { TURN = 16667, PAST_LAST = 32, LINES = 6, MOST_BEHIND = 6, CATCH_UP = 8, TIMEOUT = 5000, TIMEOUT_ONLINE = 10000 };
 
@@ -294,7 +295,8 @@ static const option options[] = {
     { "--trusted", NULL, &self.online.trusted, NULL }, { "--stun", NULL, &self.online.stun, NULL },
     { "--relay", NULL, &self.online.relay, NULL },   { "--tcp-relay", NULL, &self.online.tcp_relay, NULL },
     { "--name", NULL, &self.online.name, NULL },     { "--relay-only", NULL, NULL, &self.online.relay_only },
-    { "--ask", NULL, NULL, &self.online.asks },      { NULL, NULL, NULL, NULL },
+    { "--ask", NULL, NULL, &self.online.asks },      { "--door", NULL, NULL, &self.online.by_door },
+    { NULL, NULL, NULL, NULL },
 };
 
 static bool is_viewer(const char *word) { return strncmp(word, "viewer:", 7) == 0; }

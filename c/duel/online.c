@@ -4,9 +4,7 @@
 #include "../lobby/words.h"
 #include "clock.h"
 
-#include <poll.h>
 #include <string.h>
-#include <unistd.h>
 
 /* Keeps other games out, and other rules. */
 #define DIGEST UINT64_C(0x6475656c00000001)
@@ -34,19 +32,6 @@ static void tell_events(void) {
     }
 }
 
-/* What the player answers, a word and a new line, if there is one. */
-static void hear_answer(void) {
-    struct pollfd in = { .fd = STDIN_FILENO, .events = POLLIN };
-    char text[TEXT];
-    if (self.asking == 0 || poll(&in, 1, 0) != 1)
-        return;
-    ssize_t length = read(STDIN_FILENO, text, sizeof text);
-    if (length > 0 && (*text == 'y' || *text == 'n')) {
-        faz_lobby_let_in(self.lobby, self.asking, *text == 'y');
-        self.asking = 0;
-    }
-}
-
 static void turn(void) {
     faz_lobby_turn(self.lobby, (uint32_t)(clock_micros() / 1000));
     tell_events();
@@ -55,7 +40,8 @@ static void turn(void) {
 static bool open(const online *wish) {
     faz_lobby_settings settings = { .digest = DIGEST, .players = (uint32_t)wish->host, .any_sender = true };
     self.words = (lobby_words){ .broker = wish->broker, .trusted = wish->trusted, .stun = wish->stun, .relay = wish->relay,
-                                .tcp_relay = wish->tcp_relay, .name = wish->name, .relay_only = wish->relay_only, .asks = wish->asks };
+                                .tcp_relay = wish->tcp_relay, .name = wish->name, .relay_only = wish->relay_only,
+                                .asks = wish->asks, .by_door = wish->by_door };
     const char *why = lobby_words_read(&self.words, &settings);
     if (why == NULL)
         self.lobby = wish->host > 0 ? faz_lobby_host(&settings, &why) : faz_lobby_join(&settings, wish->code, &why);
@@ -69,7 +55,7 @@ bool online_meet(online *wish) {
         return false;
     while (faz_lobby_stage_of(self.lobby) < FAZ_LOBBY_READY) {
         turn();
-        hear_answer();
+        self.asking = lobby_words_let_in(self.lobby, self.asking);
         nanosleep(&(struct timespec){ .tv_nsec = MILLISECOND }, NULL);
     }
     if (faz_lobby_stage_of(self.lobby) != FAZ_LOBBY_READY || !faz_lobby_get_match(self.lobby, &self.match)

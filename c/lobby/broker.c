@@ -203,12 +203,13 @@ void broker_renew(broker *self) {
     self->again_at = self->now;
 }
 
-void broker_hear(broker *self, const char *subject) {
-    int at = self->subject[0][0] != 0;
-    if (self->subject[at][0] != 0 || strlen(subject) >= BROKER_SUBJECT)
+void broker_hear(broker *self, int place, const char *subject) {
+    if (place < 0 || place >= HEARD || strlen(subject) >= BROKER_SUBJECT)
         return;
-    strcpy(self->subject[at], subject);
-    subscribe(self, at);
+    natsSubscription_Destroy(self->heard[place]);
+    self->heard[place] = NULL;
+    strcpy(self->subject[place], subject);
+    subscribe(self, place);
 }
 
 bool broker_say(broker *self, const char *subject, const char *reply, const uint8_t *bytes, size_t length) {

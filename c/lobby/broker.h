@@ -34,8 +34,8 @@ const char *broker_why(const broker *self);
 /* This machine's addresses have changed: a new connection is made beside the one that there is. */
 void broker_renew(broker *self);
 
-/* Hears a subject from now on. Two at most. */
-void broker_hear(broker *self, const char *subject);
+/* Hears a subject from now on, in the place of the one that it heard there. There are two places. */
+void broker_hear(broker *self, int place, const char *subject);
 
 /* False: it isn't said. `reply` may be null; else who hears it may answer there, and if nobody hears it that is told. */
 bool broker_say(broker *self, const char *subject, const char *reply, const uint8_t *bytes, size_t length);

@@ -87,6 +87,7 @@ static void lay_table(faz_lobby *self) {
     for (int at = 0; at < FAZGROND_PLAYERS; at++)
         to->owners[at] = FAZGROND_NO_PLAYER;
     randombytes_buf(&to->number, sizeof to->number);
+    randombytes_buf(to->key, KEY);
     place(self, self->keys.open, self->inbox, self->name, self->here);
     for (int at = 0; at < GUESTS; at++) {
         guest *one = &self->hosting.guest[at];
@@ -131,18 +132,37 @@ bool faz_lobby_let_in(faz_lobby *self, uint32_t who, bool yes) {
 
 /* ---- what guests say */
 
+size_t host_offer(const faz_lobby *self, const room *in, uint8_t out[BROKER_MESSAGE]) {
+    offer ours = {.version = LOBBY_VERSION};
+    memcpy(ours.host, self->hosting.open, KEY);
+    memcpy(ours.speaks, self->keys.open, KEY);
+    memcpy(ours.inbox, self->inbox, INBOX);
+    host_vouch(ours.proof, self->hosting.secret, ours.speaks);
+    return offer_write(&ours, in, out);
+}
+
 static void hear_hello(faz_lobby *self, const broker_message *message, const uint8_t inbox[INBOX]) {
     uint8_t out[BROKER_MESSAGE];
     char subject[BROKER_SUBJECT];
     hello came;
-    offer ours = {.version = LOBBY_VERSION};
-    if (!hello_read(&came, &self->room, message->bytes, message->length))
+    if (self->hosting.has_short_code || !hello_read(&came, &self->room, message->bytes, message->length))
         return;
-    memcpy(ours.host, self->hosting.open, KEY);
-    memcpy(ours.speaks, self->keys.open, KEY);
-    host_vouch(ours.proof, self->hosting.secret, ours.speaks);
     inbox_subject(inbox, subject);
-    broker_say(self->broker, subject, NULL, out, offer_write(&ours, &self->room, out));
+    broker_say(self->broker, subject, NULL, out, host_offer(self, &self->room, out));
+}
+
+/* By which room's key somebody asks, and whose key it names; null if by none. */
+static const room *room_of_ask(const faz_lobby *self, uint8_t open[KEY], const broker_message *message) {
+    const hosting *hosts = &self->hosting;
+    if (!hosts->has_short_code)
+        return ask_open(open, &self->room, message->bytes, message->length) ? &self->room : NULL;
+    for (int at = 0; at < GUESTS; at++)
+        if (hosts->guest[at].stage != GUEST_NONE && ask_open(open, &hosts->guest[at].room, message->bytes, message->length))
+            return &hosts->guest[at].room;
+    for (int at = 0; at < KNOCKERS; at++)
+        if (hosts->knocker[at].is_proven && ask_open(open, &hosts->knocker[at].room, message->bytes, message->length))
+            return &hosts->knocker[at].room;
+    return NULL;
 }
 
 static bool is_gone(const faz_lobby *self, const uint8_t open[KEY]) {
@@ -195,21 +215,28 @@ static void note_ask(faz_lobby *self, guest *one, const ask *came) {
     }
 }
 
+/* What a guest says now; false if nobody has said so, or it is an old message. */
+static bool read_ask(faz_lobby *self, guest *one, const room *in, const uint8_t open[KEY], const broker_message *message, ask *came) {
+    bool is_new = one->stage == GUEST_NONE;
+    if (is_new && !pair_of(&one->pair, in, self->keys.open, self->keys.secret, open))
+        return false;
+    return ask_read(came, in, &one->pair, message->bytes, message->length) && (is_new || came->counter > one->counter);
+}
+
 static void hear_ask(faz_lobby *self, const broker_message *message, const uint8_t inbox[INBOX]) {
     uint8_t open[KEY];
     ask came;
-    if (!ask_open(open, &self->room, message->bytes, message->length) || is_gone(self, open))
+    const room *in = room_of_ask(self, open, message);
+    guest *one = in != NULL && !is_gone(self, open) ? guest_of(self, open) : NULL;
+    if (one == NULL || !read_ask(self, one, in, open, message, &came))
         return;
-    guest *one = guest_of(self, open);
-    bool is_new = one != NULL && one->stage == GUEST_NONE;
-    if (one == NULL || (is_new && !pair_of(&one->pair, &self->room, self->keys.open, self->keys.secret, open)))
-        return;
-    if (!ask_read(&came, &self->room, &one->pair, message->bytes, message->length) || (!is_new && came.counter <= one->counter))
-        return;
+    bool is_new = one->stage == GUEST_NONE;
     if (came.leaves && (is_new || (self->is_known && one->stage == GUEST_SEATED)))
         return;
-    if (is_new)
+    if (is_new) {
+        one->room = *in;
         memcpy(one->inbox, inbox, INBOX);
+    }
     note_ask(self, one, &came);
     if (came.leaves) {
         forget(self, one);
@@ -223,7 +250,9 @@ void host_hear(faz_lobby *self, const broker_message *message) {
     uint8_t inbox[INBOX];
     if (message->length == 0 || !inbox_read(message->reply, inbox))
         return;
-    if (message->bytes[0] == HELLO)
+    if (message->bytes[0] == KNOCK && self->hosting.has_short_code && !self->is_ready)
+        knock_hear(self, message, inbox);
+    else if (message->bytes[0] == HELLO)
         hear_hello(self, message, inbox);
     else if (message->bytes[0] == ASK)
         hear_ask(self, message, inbox);
@@ -231,6 +260,7 @@ void host_hear(faz_lobby *self, const broker_message *message) {
 
 /* Who is in the match stays in it: its line says whether it is there. */
 void host_turn(faz_lobby *self) {
+    knock_turn(self);
     for (int at = 0; at < GUESTS; at++) {
         guest *one = &self->hosting.guest[at];
         bool is_in = one->stage == GUEST_SEATED && self->is_known;

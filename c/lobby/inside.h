@@ -4,6 +4,7 @@
 
 #include "aside.h"
 #include "broker.h"
+#include "door.h"
 #include "keys.h"
 #include "lobby.h"
 #include "messages.h"
@@ -21,6 +22,7 @@ typedef enum guest_stage {
 
 typedef struct guest {
     guest_stage stage;
+    room room; /* by whose key it asks */
     faz_lobby_why why;
     uint32_t who, machine; /* `machine` once the match is known */
     pair pair;
@@ -31,10 +33,27 @@ typedef struct guest {
     uint32_t heard_at;
 } guest;
 
+/* Who knocks with a short code, and has shown that it knows it, or not yet. */
+typedef struct knocker {
+    bool is_there, is_proven;
+    uint8_t id[INBOX];
+    pake *pake;
+    uint8_t step;
+    uint32_t begun_at;
+    room room;
+    size_t length; /* of what was said to it last */
+    uint8_t said[BROKER_MESSAGE];
+} knocker;
+
+enum { KNOCKERS = 8 };
+
 typedef struct hosting {
     uint8_t open[KEY], secret[SECRET];
     uint32_t players;
-    bool asks;
+    bool asks, has_short_code;
+    char plate[PLATE_TEXT], secret_signs[SHORT_SECRET];
+    knocker knocker[KNOCKERS];
+    uint32_t wrong; /* tries at this code */
     uint32_t named; /* the last number of a guest */
     guest guest[GUESTS];
     uint8_t gone[GUESTS][KEY]; /* keys of those who were there, of whom old messages may come again */
@@ -43,12 +62,17 @@ typedef struct hosting {
 
 /* ---- Of who joins. */
 
-typedef enum joining_stage { SAYS_HELLO, ASKS_TO_JOIN, HAS_TABLE } joining_stage;
+typedef enum joining_stage { ASKS_DOOR, KNOCKS, SAYS_HELLO, ASKS_TO_JOIN, HAS_TABLE } joining_stage;
 
 typedef struct joining {
     joining_stage stage;
     uint8_t code[CODE_BYTES];
+    bool has_short_code;
+    char plate[PLATE_TEXT], secret_signs[SHORT_SECRET];
+    pake *pake;
+    knock knock; /* the last one that it said */
     pair host;
+    char host_name[BROKER_SUBJECT]; /* where that is asked */
     bool is_seated, is_asked; /* it has a seat; the host's player is asked */
     uint32_t counter, answers;
     bool has_said;
@@ -76,6 +100,14 @@ typedef struct servers {
     char stun_address[ADDRESS_TEXT], relay_address[FAZ_LINE_RELAYS][ADDRESS_TEXT];
 } servers;
 
+/* What the door is asked, and whether it has answered. */
+typedef struct door_asking {
+    bool is_used, takes_relays, has_said, is_answered, is_away_told;
+    uint32_t began_at, said_at, answered_at, seconds; /* relays are good for so many */
+    uint8_t open[KEY], secret[KEY];
+    door_request request;
+} door_asking;
+
 struct faz_lobby {
     /* Settings. */
     faz_line_settings line; /* of each line, but for whose it is */
@@ -93,10 +125,11 @@ struct faz_lobby {
     broker *broker;
     aside *looking; /* up names of servers, into */
     servers *looked_up;
-    room room;
+    room room, mesh; /* where they meet, and of those who have met: that has a key alone */
     uint8_t inbox[INBOX];
     char inbox_name[BROKER_SUBJECT], room_name[BROKER_SUBJECT];
     faz_line_keys keys; /* those of all its lines: each has another machine's at its other end */
+    door_asking door;
     hosting hosting;
     joining joining;
     table table;
@@ -126,7 +159,29 @@ const char *lobby_copy_servers(faz_lobby *self, const faz_lobby_settings *settin
 /* Looks their names up beside the game, if some are no addresses. True once all are addresses. */
 bool lobby_has_addresses(faz_lobby *self);
 
+/* Relays and a STUN server of the door's: for lines that are opened later, and for those that are open. */
+void lobby_take_servers(faz_lobby *self, const door_answer *answer);
+
+/* ---- asking.c: the door */
+
+void asking_begin(faz_lobby *self, door_kind kind, bool takes_relays);
+void asking_turn(faz_lobby *self);
+void asking_hear(faz_lobby *self, const broker_message *message);
+/* Whether lines needn't wait for its relays: they are there, or long in coming. */
+bool asking_is_over(const faz_lobby *self);
+
+/* ---- knocking.c: short codes, at the host */
+
+void knock_begin(faz_lobby *self);
+void knock_plate(faz_lobby *self, const char plate[PLATE_TEXT]);
+void knock_hear(faz_lobby *self, const broker_message *message, const uint8_t inbox[INBOX]);
+void knock_turn(faz_lobby *self);
+void knock_close(faz_lobby *self);
+
 /* ---- hosting.c */
+
+/* What the host says about itself, sealed for those who have a room's key. */
+size_t host_offer(const faz_lobby *self, const room *in, uint8_t out[BROKER_MESSAGE]);
 
 void host_hear(faz_lobby *self, const broker_message *message);
 void host_turn(faz_lobby *self);
@@ -135,6 +190,8 @@ void host_close(faz_lobby *self);
 /* ---- joining.c */
 
 void join_hear(faz_lobby *self, const broker_message *message);
+/* What the door said of the plate. */
+void join_door(faz_lobby *self, const door_answer *answer);
 void join_turn(faz_lobby *self);
 void join_close(faz_lobby *self);
 

@@ -1,6 +1,7 @@
 #include "keys.h"
 
 #include <sodium.h>
+#include <stdio.h>
 #include <string.h>
 
 static const char SIGNS[] = "0123456789ABCDEFGHJKMNPQRSTVWXYZ";
@@ -68,6 +69,43 @@ bool code_read(const char *text, uint8_t code[CODE_BYTES]) {
     memcpy(code, all, CODE_BYTES);
     complete(due, code);
     return bit == CODE_SIGNS * SIGN_BITS && memcmp(all, due, sizeof due) == 0;
+}
+
+/* ---- short codes */
+
+enum { PLATE_SIGNS = PLATE_TEXT - 1, SHORT_SIGNS = PLATE_TEXT + SHORT_SECRET - 2 };
+
+void short_write(const char plate[PLATE_TEXT], const char secret[SHORT_SECRET], char out[CODE_TEXT]) {
+    snprintf(out, CODE_TEXT, "%s-%s", plate, secret);
+}
+
+bool short_read(const char *text, char plate[PLATE_TEXT], char secret[SHORT_SECRET]) {
+    char signs[SHORT_SIGNS + 1] = {0};
+    int count = 0;
+    for (; *text != 0; text++) {
+        int sign = sign_of(*text);
+        if (sign < 0 && strchr(" -\t\r\n", *text) != NULL)
+            continue;
+        if (sign < 0 || count == SHORT_SIGNS)
+            return false;
+        signs[count++] = SIGNS[sign];
+    }
+    memcpy(plate, signs, PLATE_SIGNS);
+    plate[PLATE_SIGNS] = 0;
+    memcpy(secret, signs + PLATE_SIGNS, SHORT_SECRET);
+    return count == SHORT_SIGNS;
+}
+
+void short_draw(char secret[SHORT_SECRET]) {
+    for (int at = 0; at < SHORT_SECRET - 1; at++)
+        secret[at] = SIGNS[randombytes_uniform(sizeof SIGNS - 1)];
+    secret[SHORT_SECRET - 1] = 0;
+}
+
+/* ---- rooms */
+
+void room_named(room *self, const uint8_t token[CODE_BYTES]) {
+    sodium_bin2hex(self->name, sizeof self->name, token, CODE_BYTES);
 }
 
 void room_of(room *self, const uint8_t code[CODE_BYTES]) {

@@ -28,6 +28,15 @@ void code_write(const uint8_t code[CODE_BYTES], char out[CODE_TEXT]);
 /* False: it is none. */
 bool code_read(const char *text, uint8_t code[CODE_BYTES]);
 
+/* ---- A short code: a plate of three signs, by which the host is found, and four that nobody is told but friends. */
+
+enum { PLATE_TEXT = 4, SHORT_SECRET = 5 };
+
+/* "KXQ-4H7P" */
+void short_write(const char plate[PLATE_TEXT], const char secret[SHORT_SECRET], char out[CODE_TEXT]);
+bool short_read(const char *text, char plate[PLATE_TEXT], char secret[SHORT_SECRET]);
+void short_draw(char secret[SHORT_SECRET]);
+
 /* ---- What all know who have the code: under which name they meet, and a key. */
 
 typedef struct room {
@@ -36,6 +45,9 @@ typedef struct room {
 } room;
 
 void room_of(room *self, const uint8_t code[CODE_BYTES]);
+
+/* The name under which the host of a short code is heard, by what the door was told. Its key is for later. */
+void room_named(room *self, const uint8_t token[CODE_BYTES]);
 
 /* ---- The host vouches for a key by which a machine speaks. */
 

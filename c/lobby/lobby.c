@@ -84,7 +84,7 @@ static faz_lobby *open(const faz_lobby_settings *settings, const char **why) {
     }
     randombytes_buf(self->inbox, INBOX);
     inbox_subject(self->inbox, self->inbox_name);
-    broker_hear(self->broker, self->inbox_name);
+    broker_hear(self->broker, 0, self->inbox_name);
     self->addresses = ice_addresses();
     return self;
 }
@@ -101,15 +101,29 @@ static const char *take_match(faz_lobby *self, const faz_lobby_settings *setting
     if (settings->common_length > FAZ_LOBBY_COMMON || (settings->common_length > 0 && settings->common == NULL))
         return "what is handed to all is too long";
     self->hosting.players = settings->players;
-    self->hosting.asks = settings->asks;
+    self->hosting.asks = settings->asks || settings->short_code;
+    self->hosting.has_short_code = settings->short_code;
     self->table.common_length = settings->common_length;
     if (settings->common_length > 0)
         memcpy(self->table.common, settings->common, settings->common_length);
     return NULL;
 }
 
-faz_lobby *faz_lobby_host(const faz_lobby_settings *settings, const char **why) {
+/* A code that is a hash of the host's key. */
+static void open_by_hash(faz_lobby *self) {
     uint8_t code[CODE_BYTES];
+    code_of(code, self->hosting.open);
+    enter(self, code);
+    broker_hear(self->broker, 1, self->room_name);
+    code_write(code, lobby_tell(self, FAZ_LOBBY_CODE, 0, self->name)->text);
+}
+
+/* Whether the door's relays are wanted. */
+static bool wants_relays(const faz_lobby_settings *settings) {
+    return settings->stun == NULL && settings->relay_count == 0;
+}
+
+faz_lobby *faz_lobby_host(const faz_lobby_settings *settings, const char **why) {
     faz_lobby *self = open(settings, why);
     if (self == NULL)
         return NULL;
@@ -120,35 +134,54 @@ faz_lobby *faz_lobby_host(const faz_lobby_settings *settings, const char **why) 
     }
     self->is_host = true;
     host_draw(self->hosting.open, self->hosting.secret);
-    code_of(code, self->hosting.open);
-    enter(self, code);
-    broker_hear(self->broker, self->room_name);
-    code_write(code, lobby_tell(self, FAZ_LOBBY_CODE, 0, self->name)->text);
+    if (settings->short_code || settings->has_door)
+        asking_begin(self, settings->short_code ? DOOR_HOSTS : DOOR_RELAYS, wants_relays(settings));
+    if (settings->short_code)
+        knock_begin(self);
+    else
+        open_by_hash(self);
     return self;
+}
+
+/* Takes a code, long or short. False: it is none. */
+static bool take_code(faz_lobby *self, const faz_lobby_settings *settings, const char *code) {
+    joining *joins = &self->joining;
+    if (code == NULL)
+        return false;
+    joins->has_short_code = short_read(code, joins->plate, joins->secret_signs);
+    if (!joins->has_short_code && !code_read(code, joins->code))
+        return false;
+    joins->stage = joins->has_short_code ? ASKS_DOOR : SAYS_HELLO;
+    if (joins->has_short_code || settings->has_door)
+        asking_begin(self, joins->has_short_code ? DOOR_JOINS : DOOR_RELAYS, wants_relays(settings));
+    if (joins->has_short_code)
+        lobby_copy(self->door.request.plate, sizeof self->door.request.plate, joins->plate);
+    else
+        enter(self, joins->code);
+    return true;
 }
 
 faz_lobby *faz_lobby_join(const faz_lobby_settings *settings, const char *code, const char **why) {
     faz_lobby *self = open(settings, why);
     if (self == NULL)
         return NULL;
-    if (code == NULL || !code_read(code, self->joining.code)) {
+    if (!take_code(self, settings, code)) {
         *why = "this is no code: a sign of it may be wrong or missing";
         faz_lobby_close(self);
         return NULL;
     }
-    enter(self, self->joining.code);
     return self;
 }
 
 void faz_lobby_close(faz_lobby *self) {
     if (self == NULL)
         return;
-    if (self->broker != NULL && !self->is_ready) {
-        if (self->is_host)
-            host_close(self);
-        else
-            join_close(self);
-    }
+    if (self->broker != NULL && !self->is_ready && self->is_host)
+        host_close(self);
+    if (self->broker != NULL && !self->is_ready && !self->is_host)
+        join_close(self);
+    knock_close(self);
+    pake_close(self->joining.pake);
     mesh_close(self);
     aside_leave(self->looking);
     broker_close(self->broker);
@@ -161,6 +194,8 @@ void faz_lobby_close(faz_lobby *self) {
 static void hear(faz_lobby *self, const broker_message *message) {
     if (!message->is_nobody && message->length > 0 && message->bytes[0] == SIGNAL)
         mesh_hear(self, message);
+    else if (!message->is_nobody && message->length > 0 && message->bytes[0] == DOOR_ANSWER)
+        asking_hear(self, message);
     else if (self->is_host && !message->is_nobody)
         host_hear(self, message);
     else if (!self->is_host)
@@ -208,6 +243,7 @@ void faz_lobby_turn(faz_lobby *self, uint32_t now) {
     look_at_addresses(self);
     broker_turn(self->broker, now);
     look_at_broker(self);
+    asking_turn(self);
     hear_all(self);
     if (self->is_host)
         host_turn(self);

@@ -38,6 +38,8 @@ typedef struct faz_lobby_settings {
     faz_line_relay relays[FAZ_LINE_RELAYS]; /* TURN servers, by addresses or names */
     uint32_t relay_count;
     bool relay_only;       /* the others aren't to see this machine's address */
+    bool has_door;         /* the broker has a door beside it (c/lobby/door), which gives relays if none are named here. Without saying
+                            * so, whoever has a short code asks there too */
     bool any_sender;       /* as in faz_line_settings: for a match into which players come back, and for other programs' datagrams */
     const char *name;      /* of who plays here, as the others see it; null: "a player" */
     uint64_t digest;       /* of all that has to be alike at all machines: another one is refused before any line is made */
@@ -45,6 +47,7 @@ typedef struct faz_lobby_settings {
     /* The host's alone. */
     uint32_t players;      /* how many play, 2 to FAZGROND_PLAYERS, those at this machine among them */
     bool asks;             /* who joins has to be let in by faz_lobby_let_in */
+    bool short_code;       /* a code of seven signs by the door, which can be typed. Who joins has to be let in then, in any case */
     const void *common;    /* what is handed to all, as the opening's settings; FAZ_LOBBY_COMMON bytes at most */
     size_t common_length;
 } faz_lobby_settings;
@@ -58,8 +61,9 @@ typedef enum faz_lobby_stage {
 } faz_lobby_stage;
 
 typedef enum faz_lobby_what {
-    FAZ_LOBBY_CODE,    /* the host's code, in `text`: friends join by it */
-    FAZ_LOBBY_AWAY,    /* the broker isn't there, and is tried again and again, or a server's name isn't known: `text` says which */
+    FAZ_LOBBY_CODE,    /* the host's code, in `text`: friends join by it. A short one is another one after five wrong tries */
+    FAZ_LOBBY_AWAY,    /* the broker or the door isn't there, and is tried again and again, or a server's name isn't known: `text`
+                        * says which */
     FAZ_LOBBY_ASKS,    /* `name` wants to join, and `who` is for faz_lobby_let_in. At who joins: the player of `name`, who hosts, is
                         * asked. Both see the same `text`, unless somebody stands between the two */
     FAZ_LOBBY_JOINED,  /* `name` is in the lobby. At who joins: this machine is in that of `name`. `text` as above */
@@ -79,7 +83,9 @@ typedef enum faz_lobby_why {
     FAZ_LOBBY_NOT_LET_IN,    /* the host's player said no */
     FAZ_LOBBY_HOST_LEFT,     /* the host closed its lobby, or is gone */
     FAZ_LOBBY_OTHER_LIBRARY, /* the host speaks another version of what is said in a lobby */
-    FAZ_LOBBY_SYSTEM         /* no memory, or no socket */
+    FAZ_LOBBY_SYSTEM,        /* no memory, or no socket */
+    FAZ_LOBBY_WRONG_CODE,    /* the last four signs of a short code are wrong, or who answers doesn't know them */
+    FAZ_LOBBY_TOO_MANY       /* the door was asked too often from this address: later */
 } faz_lobby_why;
 
 typedef struct faz_lobby_event {

@@ -26,7 +26,7 @@ static bool open_line(faz_lobby *self, uint32_t machine) {
     settings.keys = &keys;
     settings.their = of->open;
     inbox_subject(of->inbox, to->subject);
-    if (pair_of(&to->pair, &self->room, self->keys.open, self->keys.secret, of->open))
+    if (pair_of(&to->pair, &self->mesh, self->keys.open, self->keys.secret, of->open))
         to->line = faz_line_open(&settings, &why);
     sodium_memzero(&keys, sizeof keys);
     return to->line != NULL;
@@ -45,6 +45,7 @@ static void hear_early(faz_lobby *self) {
 
 void mesh_open(faz_lobby *self) {
     self->is_known = true;
+    memcpy(self->mesh.key, self->table.key, KEY);
     self->heard = self->table.me;
     lobby_tell(self, FAZ_LOBBY_FULL, self->table.me, "");
 }

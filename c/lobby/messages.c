@@ -1,63 +1,15 @@
 #include "messages.h"
 
+#include "cursor.h"
+
 #include <glib.h>
 #include <sodium.h>
 #include <stdio.h>
 #include <string.h>
 
-/* Bytes that are written or read one after another, for as long as there is room. */
-typedef struct cursor {
-    uint8_t *at;
-    size_t left;
-    bool is_good;
-} cursor;
-
-static void put(cursor *self, const void *bytes, size_t length) {
-    self->is_good = self->is_good && length <= self->left;
-    if (!self->is_good || length == 0)
-        return;
-    memcpy(self->at, bytes, length);
-    self->at += length;
-    self->left -= length;
-}
-
-static void get(cursor *self, void *bytes, size_t length) {
-    self->is_good = self->is_good && length <= self->left;
-    if (!self->is_good)
-        memset(bytes, 0, length);
-    if (!self->is_good || length == 0)
-        return;
-    memcpy(bytes, self->at, length);
-    self->at += length;
-    self->left -= length;
-}
-
-static void put_number(cursor *self, uint64_t number, int bytes) {
-    uint8_t text[8];
-    for (int at = 0; at < bytes; at++)
-        text[at] = (uint8_t)(number >> (8 * (bytes - 1 - at)));
-    put(self, text, (size_t)bytes);
-}
-
-static uint64_t get_number(cursor *self, int bytes) {
-    uint8_t text[8] = {0};
-    uint64_t number = 0;
-    get(self, text, (size_t)bytes);
-    for (int at = 0; at < bytes; at++)
-        number = number << 8 | text[at];
-    return number;
-}
-
-static void put_name(cursor *self, const char *name) {
-    put_number(self, strlen(name), 1);
-    put(self, name, strlen(name));
-}
-
 static void get_name(cursor *self, char name[FAZ_LOBBY_NAME_ROOM]) {
-    char text[FAZ_LOBBY_NAME_ROOM] = "";
-    size_t length = get_number(self, 1);
-    self->is_good = self->is_good && length < FAZ_LOBBY_NAME_ROOM;
-    get(self, text, self->is_good ? length : 0);
+    char text[FAZ_LOBBY_NAME_ROOM];
+    cursor_get_text(self, text, sizeof text);
     name_clean(name, text);
 }
 
@@ -99,6 +51,35 @@ bool inbox_read(const char *subject, uint8_t inbox[INBOX]) {
     return strcmp(subject, again) == 0;
 }
 
+/* ---- what gets a key by a short code */
+
+size_t knock_write(const knock *self, message_kind kind, uint8_t out[BROKER_MESSAGE]) {
+    cursor to = {out, BROKER_MESSAGE - 1, true};
+    cursor_put_number(&to, kind, 1);
+    cursor_put(&to, self->id, INBOX);
+    cursor_put_number(&to, self->step, 1);
+    cursor_put_number(&to, self->is_wrong, 1);
+    cursor_put_number(&to, self->length, 2);
+    cursor_put(&to, self->bytes, self->length);
+    return (size_t)(to.at - out);
+}
+
+bool knock_read(knock *self, message_kind kind, const uint8_t *bytes, size_t length, size_t *more) {
+    uint8_t copy[BROKER_MESSAGE];
+    if (length == 0 || length > sizeof copy || bytes[0] != (uint8_t)kind)
+        return false;
+    memcpy(copy, bytes + 1, length - 1);
+    cursor from = {copy, length - 1, true};
+    cursor_get(&from, self->id, INBOX);
+    self->step = (uint8_t)cursor_get_number(&from, 1);
+    self->is_wrong = cursor_get_number(&from, 1) != 0;
+    self->length = cursor_get_number(&from, 2);
+    from.is_good = from.is_good && self->length < PAKE_BYTES;
+    cursor_get(&from, self->bytes, from.is_good ? self->length : 0);
+    *more = from.left;
+    return from.is_good;
+}
+
 /* ---- what all who have the code can read */
 
 static size_t seal_for_all(const room *in, uint8_t out[BROKER_MESSAGE], message_kind kind, const uint8_t *inside, const cursor *end) {
@@ -118,38 +99,40 @@ static cursor open_for_all(const room *in, uint8_t *inside, message_kind kind, c
 size_t hello_write(const hello *self, const room *in, uint8_t out[BROKER_MESSAGE]) {
     uint8_t inside[BROKER_MESSAGE];
     cursor to = {inside, sizeof inside - SEAL - 2, true};
-    put_number(&to, self->version, 1);
-    put(&to, self->open, KEY);
+    cursor_put_number(&to, self->version, 1);
+    cursor_put(&to, self->open, KEY);
     return seal_for_all(in, out, HELLO, inside, &to);
 }
 
 bool hello_read(hello *self, const room *in, const uint8_t *bytes, size_t length) {
     uint8_t inside[BROKER_MESSAGE];
     cursor from = open_for_all(in, inside, HELLO, bytes, length);
-    self->version = (uint8_t)get_number(&from, 1);
+    self->version = (uint8_t)cursor_get_number(&from, 1);
     bool is_other = from.is_good && self->version != LOBBY_VERSION;
-    get(&from, self->open, KEY);
+    cursor_get(&from, self->open, KEY);
     return is_other || from.is_good;
 }
 
 size_t offer_write(const offer *self, const room *in, uint8_t out[BROKER_MESSAGE]) {
     uint8_t inside[BROKER_MESSAGE];
     cursor to = {inside, sizeof inside - SEAL - 2, true};
-    put_number(&to, self->version, 1);
-    put(&to, self->host, KEY);
-    put(&to, self->speaks, KEY);
-    put(&to, self->proof, PROOF);
+    cursor_put_number(&to, self->version, 1);
+    cursor_put(&to, self->host, KEY);
+    cursor_put(&to, self->speaks, KEY);
+    cursor_put(&to, self->proof, PROOF);
+    cursor_put(&to, self->inbox, INBOX);
     return seal_for_all(in, out, OFFER, inside, &to);
 }
 
 bool offer_read(offer *self, const room *in, const uint8_t *bytes, size_t length) {
     uint8_t inside[BROKER_MESSAGE];
     cursor from = open_for_all(in, inside, OFFER, bytes, length);
-    self->version = (uint8_t)get_number(&from, 1);
+    self->version = (uint8_t)cursor_get_number(&from, 1);
     bool is_other = from.is_good && self->version != LOBBY_VERSION;
-    get(&from, self->host, KEY);
-    get(&from, self->speaks, KEY);
-    get(&from, self->proof, PROOF);
+    cursor_get(&from, self->host, KEY);
+    cursor_get(&from, self->speaks, KEY);
+    cursor_get(&from, self->proof, PROOF);
+    cursor_get(&from, self->inbox, INBOX);
     return is_other || from.is_good;
 }
 
@@ -158,13 +141,13 @@ bool offer_read(offer *self, const room *in, const uint8_t *bytes, size_t length
 size_t ask_write(const ask *self, const room *in, const pair *between, uint8_t out[BROKER_MESSAGE]) {
     uint8_t inner[BROKER_MESSAGE], inside[BROKER_MESSAGE];
     cursor to = {inner, sizeof inner - 2 * SEAL - KEY - 2, true}, all = {inside, sizeof inside - SEAL - 2, true};
-    put_number(&to, self->counter, 4);
-    put_number(&to, self->leaves, 1);
-    put_number(&to, self->digest, 8);
-    put_number(&to, self->here, 1);
-    put_name(&to, self->name);
+    cursor_put_number(&to, self->counter, 4);
+    cursor_put_number(&to, self->leaves, 1);
+    cursor_put_number(&to, self->digest, 8);
+    cursor_put_number(&to, self->here, 1);
+    cursor_put_text(&to, self->name);
     size_t length = (size_t)(to.at - inner);
-    put(&all, self->open, KEY);
+    cursor_put(&all, self->open, KEY);
     pair_seal(between, all.at, ASK, inner, length);
     all.at += length + SEAL;
     return seal_for_all(in, out, ASK, inside, &all);
@@ -173,38 +156,39 @@ size_t ask_write(const ask *self, const room *in, const pair *between, uint8_t o
 bool ask_open(uint8_t open[KEY], const room *in, const uint8_t *bytes, size_t length) {
     uint8_t inside[BROKER_MESSAGE];
     cursor from = open_for_all(in, inside, ASK, bytes, length);
-    get(&from, open, KEY);
+    cursor_get(&from, open, KEY);
     return from.is_good;
 }
 
 bool ask_read(ask *self, const room *in, const pair *between, const uint8_t *bytes, size_t length) {
     uint8_t inside[BROKER_MESSAGE], inner[BROKER_MESSAGE];
     cursor all = open_for_all(in, inside, ASK, bytes, length);
-    get(&all, self->open, KEY);
+    cursor_get(&all, self->open, KEY);
     bool is_good = all.is_good && all.left >= SEAL && pair_open(between, inner, ASK, all.at, all.left);
     cursor from = {inner, is_good ? all.left - SEAL : 0, is_good};
-    self->counter = (uint32_t)get_number(&from, 4);
-    self->leaves = get_number(&from, 1) != 0;
-    self->digest = get_number(&from, 8);
-    self->here = (uint32_t)get_number(&from, 1);
+    self->counter = (uint32_t)cursor_get_number(&from, 4);
+    self->leaves = cursor_get_number(&from, 1) != 0;
+    self->digest = cursor_get_number(&from, 8);
+    self->here = (uint32_t)cursor_get_number(&from, 1);
     get_name(&from, self->name);
     return from.is_good && self->here >= 1 && self->here <= FAZGROND_PLAYERS;
 }
 
 static void put_table(cursor *to, const table *self) {
-    put_number(to, self->me, 1);
-    put_number(to, self->machines, 1);
-    put_number(to, self->players, 1);
+    cursor_put_number(to, self->me, 1);
+    cursor_put_number(to, self->machines, 1);
+    cursor_put_number(to, self->players, 1);
     for (int at = 0; at < FAZGROND_PLAYERS; at++)
-        put_number(to, self->owners[at], 1);
-    put_number(to, self->number, 8);
+        cursor_put_number(to, self->owners[at], 1);
+    cursor_put_number(to, self->number, 8);
+    cursor_put(to, self->key, KEY);
     for (uint32_t at = 0; at < self->machines; at++) {
-        put(to, self->member[at].open, KEY);
-        put(to, self->member[at].inbox, INBOX);
-        put_name(to, self->member[at].name);
+        cursor_put(to, self->member[at].open, KEY);
+        cursor_put(to, self->member[at].inbox, INBOX);
+        cursor_put_text(to, self->member[at].name);
     }
-    put_number(to, self->common_length, 2);
-    put(to, self->common, self->common_length);
+    cursor_put_number(to, self->common_length, 2);
+    cursor_put(to, self->common, self->common_length);
 }
 
 /* Whether each player has a machine, and no other place has one. */
@@ -218,30 +202,31 @@ static bool has_owners(const table *self) {
 
 static void get_table(cursor *from, table *self) {
     memset(self, 0, sizeof *self);
-    self->me = (uint32_t)get_number(from, 1);
-    self->machines = (uint32_t)get_number(from, 1);
-    self->players = (uint32_t)get_number(from, 1);
+    self->me = (uint32_t)cursor_get_number(from, 1);
+    self->machines = (uint32_t)cursor_get_number(from, 1);
+    self->players = (uint32_t)cursor_get_number(from, 1);
     for (int at = 0; at < FAZGROND_PLAYERS; at++)
-        self->owners[at] = (uint32_t)get_number(from, 1);
-    self->number = get_number(from, 8);
+        self->owners[at] = (uint32_t)cursor_get_number(from, 1);
+    self->number = cursor_get_number(from, 8);
+    cursor_get(from, self->key, KEY);
     from->is_good = from->is_good && has_owners(self);
     for (uint32_t at = 0; at < self->machines && from->is_good; at++) {
-        get(from, self->member[at].open, KEY);
-        get(from, self->member[at].inbox, INBOX);
+        cursor_get(from, self->member[at].open, KEY);
+        cursor_get(from, self->member[at].inbox, INBOX);
         get_name(from, self->member[at].name);
     }
-    self->common_length = get_number(from, 2);
+    self->common_length = cursor_get_number(from, 2);
     from->is_good = from->is_good && self->common_length <= FAZ_LOBBY_COMMON;
-    get(from, self->common, from->is_good ? self->common_length : 0);
+    cursor_get(from, self->common, from->is_good ? self->common_length : 0);
 }
 
 size_t answer_write(const answer *self, const pair *between, uint8_t out[BROKER_MESSAGE]) {
     uint8_t inside[BROKER_MESSAGE];
     cursor to = {inside, sizeof inside - SEAL - 2, true};
-    put_number(&to, self->counter, 4);
-    put_number(&to, self->what, 1);
-    put_number(&to, self->why, 1);
-    put_name(&to, self->name);
+    cursor_put_number(&to, self->counter, 4);
+    cursor_put_number(&to, self->what, 1);
+    cursor_put_number(&to, self->why, 1);
+    cursor_put_text(&to, self->name);
     if (self->what == BEGINS)
         put_table(&to, &self->table);
     size_t length = (size_t)(to.at - inside);
@@ -255,9 +240,9 @@ bool answer_read(answer *self, const pair *between, const uint8_t *bytes, size_t
     bool is_good = length > SEAL && length < BROKER_MESSAGE && bytes[0] == ANSWER
         && pair_open(between, inside, ANSWER, bytes + 1, length - 1);
     cursor from = {inside, is_good ? length - 1 - SEAL : 0, is_good};
-    self->counter = (uint32_t)get_number(&from, 4);
-    self->what = (answer_what)get_number(&from, 1);
-    self->why = (faz_lobby_why)get_number(&from, 1);
+    self->counter = (uint32_t)cursor_get_number(&from, 4);
+    self->what = (answer_what)cursor_get_number(&from, 1);
+    self->why = (faz_lobby_why)cursor_get_number(&from, 1);
     get_name(&from, self->name);
     if (from.is_good && self->what == BEGINS)
         get_table(&from, &self->table);

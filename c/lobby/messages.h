@@ -6,6 +6,7 @@
 #include "broker.h"
 #include "keys.h"
 #include "lobby.h"
+#include "pake.h"
 
 enum {
     LOBBY_VERSION = 1,
@@ -14,7 +15,16 @@ enum {
 };
 
 /* The first byte of a message. */
-typedef enum message_kind { HELLO = 'h', OFFER = 'o', ASK = 'a', ANSWER = 's', SIGNAL = 'g' } message_kind;
+typedef enum message_kind { KNOCK = 'k', KNOCKED = 'n', HELLO = 'h', OFFER = 'o', ASK = 'a', ANSWER = 's', SIGNAL = 'g' } message_kind;
+
+/* With a short code who joins and the host get a key by it first, in two messages of each (pake.h). */
+typedef struct knock {
+    uint8_t id[INBOX]; /* of the one who knocks */
+    uint8_t step;      /* 1 or 2 */
+    bool is_wrong;     /* the host's: the code is */
+    size_t length;
+    uint8_t bytes[PAKE_BYTES];
+} knock;
 
 typedef struct hello {
     uint8_t version;
@@ -26,6 +36,7 @@ typedef struct offer {
     uint8_t host[KEY];   /* whose hash the code is */
     uint8_t speaks[KEY]; /* by which key the host speaks, and that it does */
     uint8_t proof[PROOF];
+    uint8_t inbox[INBOX]; /* where it is asked from now on */
 } offer;
 
 typedef struct ask {
@@ -47,6 +58,7 @@ typedef struct table {
     uint32_t me, machines, players;
     uint32_t owners[FAZGROND_PLAYERS];
     uint64_t number;
+    uint8_t key[KEY]; /* of all its machines */
     member member[FAZGROND_MACHINES];
     size_t common_length;
     uint8_t common[FAZ_LOBBY_COMMON];
@@ -61,6 +73,10 @@ typedef struct answer {
     char name[FAZ_LOBBY_NAME_ROOM]; /* of who hosts */
     table table;                    /* of BEGINS */
 } answer;
+
+/* Behind what the host says there may be an offer: `more` is how many bytes of it there are, at the message's end. */
+size_t knock_write(const knock *self, message_kind kind, uint8_t out[BROKER_MESSAGE]);
+bool knock_read(knock *self, message_kind kind, const uint8_t *bytes, size_t length, size_t *more);
 
 /* Each writes a message of less than BROKER_MESSAGE bytes, and says how long it is. */
 size_t hello_write(const hello *self, const room *in, uint8_t out[BROKER_MESSAGE]);

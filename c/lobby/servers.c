@@ -102,9 +102,29 @@ static bool begin(faz_lobby *self) {
     return self->looking != NULL;
 }
 
+void lobby_take_servers(faz_lobby *self, const door_answer *answer) {
+    faz_line_relay relays[FAZ_LINE_RELAYS];
+    for (uint32_t at = 0; at < answer->relays; at++) {
+        const door_server *from = &answer->relay[at];
+        bool is_known = self->has_lines && strcmp(from->address, self->servers.relay[at]) == 0;
+        relays[at] = (faz_line_relay){is_known ? self->servers.relay_address[at] : from->address, from->port, answer->user, answer->password,
+                                      from->by_tcp};
+    }
+    if (self->has_lines) {
+        faz_lobby_relays(self, relays, answer->relays);
+        return;
+    }
+    lobby_copy(self->servers.stun, sizeof self->servers.stun, answer->stun);
+    self->line.stun_port = answer->stun_port;
+    copy_relays(self, relays, answer->relays);
+    self->has_addresses = false;
+}
+
 bool lobby_has_addresses(faz_lobby *self) {
     if (self->has_addresses)
         return true;
+    if (!asking_is_over(self))
+        return false;
     if (self->looking == NULL && begin(self))
         return false;
     if (self->looking != NULL && !aside_is_over(self->looking))

@@ -62,6 +62,7 @@ const char *lobby_words_read(lobby_words *words, faz_lobby_settings *settings) {
     settings->name = words->name;
     settings->relay_only = words->relay_only;
     settings->asks = words->asks;
+    settings->has_door = settings->short_code = words->by_door;
     if (words->stun != NULL && (!copied(words->texts[0], words->stun) || !split(words->texts[0], &settings->stun, &settings->stun_port)))
         return "--stun has no ADDRESS:PORT";
     if (words->relay != NULL && !read_relay(words->relay, words->texts[1], false, settings))
@@ -76,8 +77,10 @@ void lobby_words_of(const faz_lobby_event *event, char *out, size_t room) {
     *out = 0;
     switch (event->what) {
     case FAZ_LOBBY_CODE: snprintf(out, room, "the code is %s", text); break;
-    case FAZ_LOBBY_AWAY: snprintf(out, room, "the broker isn't there: %s", text); break;
-    case FAZ_LOBBY_ASKS: snprintf(out, room, "%s wants to join, and sees %s", name, text); break;
+    case FAZ_LOBBY_AWAY: snprintf(out, room, "waiting: %s", text); break;
+    case FAZ_LOBBY_ASKS:
+        snprintf(out, room, event->who != 0 ? "%s wants to join, and sees %s" : "%s is asked; both see %s", name, text);
+        break;
     case FAZ_LOBBY_JOINED: snprintf(out, room, *text != 0 ? "with %s: both see %s" : "with %s", name, text); break;
     case FAZ_LOBBY_LEFT: snprintf(out, room, "%s has left", name); break;
     case FAZ_LOBBY_FULL: snprintf(out, room, "all are there"); break;

@@ -25,6 +25,7 @@ static const char usage[] =
     "  --machines N     the host waits for so many in all (2)\n"
     "  --viewers N      with a code it waits for so many besides, who watch (0)\n"
     "  --name NAME, --stun ADDRESS[:PORT], --relay USER:PASSWORD@ADDRESS[:PORT], --tcp-relay .., --relay-only, --trusted FILE\n"
+    "  --ask: who joins has to be let in, by y or n; --door: the broker has a door, so that codes are short and --ask is on\n"
     "                   with a code: yours, as the others see it; servers that help to find a way; the others don't see this\n"
     "                   machine's address; the certificates by which the broker is believed\n"
     "  --seats N        one or two play at this machine (1)\n"
@@ -88,6 +89,7 @@ static const option options[] = {
     { "--name", NULL, &self.online.name, NULL },    { "--stun", NULL, &self.online.stun, NULL },
     { "--relay", NULL, &self.online.relay, NULL },  { "--tcp-relay", NULL, &self.online.tcp_relay, NULL },
     { "--trusted", NULL, &self.online.trusted, NULL }, { "--relay-only", NULL, NULL, &self.online.relay_only },
+    { "--ask", NULL, NULL, &self.online.asks },      { "--door", NULL, NULL, &self.online.by_door },
     { "--headless", NULL, NULL, &self.wish.is_headless }, { "--again", NULL, NULL, &self.goes_again },
     { "--rejoin", NULL, NULL, &self.lasts },
     { "--unchecked", NULL, NULL, &self.is_unchecked }, { "--verbose", NULL, NULL, &self.is_verbose },

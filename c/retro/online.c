@@ -16,6 +16,7 @@ enum { TEXT = FAZ_LOBBY_TEXT_ROOM + 64 };
 static struct {
     faz_lobby *lobby;
     lobby_words words;
+    uint32_t asking; /* who waits for an answer of this player's; 0: nobody */
     char code[TEXT], text[TEXT]; /* what the host was told, and what was said last */
 } self;
 
@@ -30,13 +31,18 @@ static void tell_events(void) {
             continue;
         memcpy(event.what == FAZ_LOBBY_CODE ? self.code : self.text, text, sizeof text);
         fprintf(stderr, "%s\n", text);
+        if (event.what != FAZ_LOBBY_ASKS || event.who == 0)
+            continue;
+        self.asking = event.who;
+        fputs("y lets in, n doesn't\n", stderr);
     }
 }
 
 bool online_open(const online_wish *wish) {
     faz_lobby_settings settings = { .digest = DIGEST, .players = wish->machines, .any_sender = true };
     self.words = (lobby_words){ .broker = wish->broker, .trusted = wish->trusted, .stun = wish->stun, .relay = wish->relay,
-                                .tcp_relay = wish->tcp_relay, .name = wish->name, .relay_only = wish->relay_only };
+                                .tcp_relay = wish->tcp_relay, .name = wish->name, .relay_only = wish->relay_only,
+                                .asks = wish->asks, .by_door = wish->by_door };
     const char *why = lobby_words_read(&self.words, &settings);
     if (why == NULL)
         self.lobby = wish->code != NULL ? faz_lobby_join(&settings, wish->code, &why) : faz_lobby_host(&settings, &why);
@@ -48,6 +54,7 @@ bool online_open(const online_wish *wish) {
 static void turn(void) {
     faz_lobby_turn(self.lobby, millis());
     tell_events();
+    self.asking = lobby_words_let_in(self.lobby, self.asking);
 }
 
 online_stage online_turn(void) {

@@ -11,7 +11,7 @@
 typedef struct online_wish {
     const char *code; /* who hosts has none, and is told one */
     const char *broker, *trusted, *stun, *relay, *tcp_relay, *name;
-    bool relay_only, asks;
+    bool relay_only, asks, by_door;
     uint32_t machines; /* how many the host waits for, those that watch among them */
 } online_wish;
 

@@ -24,6 +24,7 @@ static const char usage[] =
     "  --friends PORT   the port of all friends (100 more than PORT)\n"
     "  --name NAME      yours, as the others see it\n"
     "  --ask            who joins has to be let in: y or n, and Return\n"
+    "  --door           the broker has a door: codes are short, who joins has to be let in, and relays are the door's\n"
     "  --stun ADDRESS[:PORT]    a STUN server: over the internet there has to be one\n"
     "  --relay USER:PASSWORD@ADDRESS[:PORT], --tcp-relay ..    a TURN server, for where no direct way is\n"
     "  --relay-only     the others don't see this machine's address\n"
@@ -148,8 +149,8 @@ static void tell_events(void) {
             printf("%s\n", text);
             fflush(stdout);
         } else if (*text != 0)
-            fprintf(stderr, "%s%s\n", text, event.what == FAZ_LOBBY_ASKS ? ": y or n?" : "");
-        if (event.what == FAZ_LOBBY_ASKS)
+            fprintf(stderr, "%s%s\n", text, event.what == FAZ_LOBBY_ASKS && event.who != 0 ? ": y or n?" : "");
+        if (event.what == FAZ_LOBBY_ASKS && event.who != 0)
             self.asks = event.who;
     }
 }
@@ -210,6 +211,7 @@ static const option options[] = {
     { "--stun", NULL, &self.words.stun, NULL },        { "--relay", NULL, &self.words.relay, NULL },
     { "--tcp-relay", NULL, &self.words.tcp_relay, NULL }, { "--name", NULL, &self.words.name, NULL },
     { "--relay-only", NULL, NULL, &self.words.relay_only }, { "--ask", NULL, NULL, &self.words.asks },
+    { "--door", NULL, NULL, &self.words.by_door },
     { NULL, NULL, NULL, NULL },
 };
 

@@ -1,5 +1,5 @@
-/* Strangers on the broker, and friends who lie: hostile URL. Lobbies of one process, and beside them somebody who hears all that is said on
- * the broker, says it again, changes it, and says what it likes. */
+/* Strangers on the broker, and friends who lie: hostile URL [short]. Lobbies of one process, and beside them somebody who hears all that is
+ * said on the broker, says it again, changes it, and says what it likes. With `short` codes are short, and there is a door. */
 #define _POSIX_C_SOURCE 200809L
 
 #include "../inside.h"
@@ -419,25 +419,168 @@ static void test_settings(void) {
     for (size_t at = 0; at < sizeof hosts / sizeof *hosts; at++, why = NULL)
         check(faz_lobby_host(&hosts[at].settings, &why) == NULL && why != NULL, hosts[at].what);
     bad = good;
-    check(faz_lobby_join(&bad, "KXQ-4H7P", &why) == NULL && why != NULL, "no code");
+    check(faz_lobby_join(&bad, "KXQ-4H7", &why) == NULL && why != NULL, "no code");
     check(faz_lobby_join(&bad, NULL, &why) == NULL && why != NULL, "no code at all");
     faz_lobby_close(NULL);
 }
 
+/* ---- short codes */
+
+static void open_short(uint32_t players) {
+    const char *why = NULL;
+    faz_lobby_settings settings = {.broker = self.url, .name = "Ann", .digest = 7, .players = players, .short_code = true};
+    memset(self.told, 0, sizeof self.told);
+    self.lobby[0] = faz_lobby_host(&settings, &why);
+    check(self.lobby[0] != NULL && is_told(0, FAZ_LOBBY_CODE, 1), "a host with a short code");
+    check(strlen(self.code) == 8 && self.code[3] == '-', "it is short");
+}
+
+/* The friend is asked for, and let in. */
+static void let_in(int at) {
+    unsigned asked = self.told[0][FAZ_LOBBY_ASKS];
+    open_friend(at);
+    check(is_told(0, FAZ_LOBBY_ASKS, asked + 1) && faz_lobby_let_in(self.lobby[0], self.last[0].who, true), "a friend is let in");
+}
+
+/* Somebody tries a code with another last sign. */
+static faz_lobby_why try_wrong(void) {
+    char right[FAZ_LOBBY_CODE_ROOM];
+    strcpy(right, self.code);
+    self.code[7] = self.code[7] == '7' ? '8' : '7';
+    open_friend(2);
+    strcpy(self.code, right);
+    check(comes_to(2, FAZ_LOBBY_OVER), "a wrong code ends it");
+    faz_lobby_why why = self.last[2].why;
+    close_one(2);
+    return why;
+}
+
+/* Four wrong tries do no harm, and take no seat. */
+static void test_wrong_tries(void) {
+    open_short(2);
+    for (int times = 0; times < 4; times++)
+        check(try_wrong() == FAZ_LOBBY_WRONG_CODE, "a wrong code is known as such");
+    check(self.told[0][FAZ_LOBBY_ASKS] == 0 && self.told[0][FAZ_LOBBY_CODE] == 1, "nobody was asked for");
+    self.skipped += 21000;
+    run(300);
+    check(self.told[0][FAZ_LOBBY_CODE] == 1 && self.lobby[0]->door.is_answered, "the plate is kept");
+    let_in(1);
+    check(comes_to(0, FAZ_LOBBY_READY) && comes_to(1, FAZ_LOBBY_READY), "the friend plays");
+    close_all();
+    forget();
+}
+
+/* After the fifth the code is another one. Who was let in before stays. */
+static void test_burnt(void) {
+    char before[FAZ_LOBBY_CODE_ROOM];
+    open_short(3);
+    strcpy(before, self.code);
+    let_in(1);
+    check(is_told(1, FAZ_LOBBY_JOINED, 1), "a friend is in");
+    for (int times = 0; times < 5; times++)
+        check(try_wrong() == FAZ_LOBBY_WRONG_CODE, "a wrong code is known as such");
+    check(is_told(0, FAZ_LOBBY_CODE, 2) && strcmp(before, self.code) != 0, "the code is another one");
+    char now_it_is[FAZ_LOBBY_CODE_ROOM];
+    strcpy(now_it_is, self.code);
+    strcpy(self.code, before);
+    listen(false);
+    open_friend(2);
+    check(comes_to(2, FAZ_LOBBY_OVER) && self.last[2].why == FAZ_LOBBY_NO_SUCH_CODE, "the one before is none");
+    listen(true);
+    close_one(2);
+    strcpy(self.code, now_it_is);
+    let_in(2);
+    for (int at = 0; at < 3; at++)
+        check(comes_to(at, FAZ_LOBBY_READY), "all play");
+    close_all();
+    forget();
+}
+
+/* Who never shows that it knows the code has had its try; what is said again, or is junk, does nothing. */
+static void test_knocks(void) {
+    uint8_t message[BROKER_MESSAGE];
+    open_short(2);
+    for (int times = 0; times < 3; times++) {
+        knock text = {.step = 1};
+        pake *one = pake_open(false, self.lobby[0]->hosting.plate, "0000");
+        randombytes_buf(text.id, INBOX);
+        pake_turn(one, NULL, 0, text.bytes, &text.length);
+        pake_close(one);
+        say(self.lobby[0]->room_name, "faz.in.0123456789abcdef0123456789abcdef", message, knock_write(&text, KNOCK, message));
+    }
+    run(300);
+    self.skipped += 6000;
+    run(100);
+    check(self.lobby[0]->hosting.wrong == 3, "three have had their tries");
+    for (int times = 0; times < 300; times++) {
+        knock text = {.step = (uint8_t)(times % 5), .length = randombytes_uniform(PAKE_BYTES)};
+        randombytes_buf(text.id, INBOX);
+        randombytes_buf(text.bytes, sizeof text.bytes);
+        size_t length = knock_write(&text, KNOCK, message);
+        say(self.lobby[0]->room_name, "faz.in.0123456789abcdef0123456789abcdef", message, times % 3 == 0 ? randombytes_uniform((uint32_t)length) : length);
+        if (times % 50 == 0)
+            run(20);
+    }
+    run(300);
+    check(self.told[0][FAZ_LOBBY_CODE] >= 2, "junk costs tries, and codes");
+    forget();
+    run(500);
+    let_in(1);
+    check(comes_to(0, FAZ_LOBBY_READY) && comes_to(1, FAZ_LOBBY_READY), "the friend plays");
+    hear();
+    say_again(0, self.count);
+    run(300);
+    check(self.told[0][FAZ_LOBBY_ASKS] == 1 && faz_lobby_stage_of(self.lobby[0]) == FAZ_LOBBY_READY, "what is said again does nothing");
+    char signs[SHORT_SECRET];
+    memcpy(signs, self.lobby[0]->hosting.secret_signs, SHORT_SECRET);
+    for (size_t at = 0; at < self.count; at++)
+        for (int place = 0; place + 4 <= natsMsg_GetDataLength(self.kept[at]); place++)
+            check(memcmp(natsMsg_GetData(self.kept[at]) + place, signs, 4) != 0, "the last four signs are seen");
+    close_all();
+    forget();
+}
+
+/* A plate that nobody has is told at once; who tries many is told to wait. */
+static void test_no_plate(void) {
+    const char *why;
+    faz_lobby_settings settings = {.broker = self.url, .digest = 7};
+    strcpy(self.code, "ZZZ-ZZZZ");
+    open_friend(1);
+    uint32_t begun = now();
+    check(comes_to(1, FAZ_LOBBY_OVER) && self.last[1].why == FAZ_LOBBY_NO_SUCH_CODE && now() - begun < 2000, "a plate of nobody's");
+    close_one(1);
+    for (int times = 0; times < 120 && self.last[1].why != FAZ_LOBBY_TOO_MANY; times++) {
+        self.lobby[1] = faz_lobby_join(&settings, "ZZZ ZZZ Z", &why);
+        comes_to(1, FAZ_LOBBY_OVER);
+        close_one(1);
+    }
+    check(self.last[1].why == FAZ_LOBBY_TOO_MANY, "the door counts");
+    close_all();
+    forget();
+}
+
+typedef struct test {
+    const char *name;
+    void (*run)(void);
+} test;
+
 int main(int count, char **words) {
-    static const struct { const char *name; void (*run)(void); } tests[] = {
+    static const test tests[] = {
         {"settings", test_settings}, {"stranger", test_stranger}, {"hidden", test_hidden}, {"elsewhere", test_elsewhere},
         {"false host", test_false_host}, {"ghosts", test_ghosts}, {"silence", test_silence}, {"crowd", test_crowd},
         {"refusals", test_refusals}, {"host leaves", test_host_leaves}};
-    if (count != 2)
+    static const test shorts[] = {
+        {"wrong tries", test_wrong_tries}, {"burnt", test_burnt}, {"knocks", test_knocks}, {"no plate", test_no_plate}};
+    bool are_short = count == 3 && strcmp(words[2], "short") == 0;
+    if (count != 2 && !are_short)
         return 2;
     self.url = words[1];
     if (natsConnection_ConnectTo(&self.stranger, self.url) != NATS_OK || !listen(true))
         return 2;
-    for (size_t at = 0; at < sizeof tests / sizeof *tests; at++) {
+    for (size_t at = 0; at < (are_short ? sizeof shorts / sizeof *shorts : sizeof tests / sizeof *tests); at++) {
         int failed = self.failed;
-        tests[at].run();
-        printf("%s: %s\n", tests[at].name, self.failed == failed ? "as it should" : "not as it should");
+        (are_short ? shorts[at].run : tests[at].run)();
+        printf("%s: %s\n", are_short ? shorts[at].name : tests[at].name, self.failed == failed ? "as it should" : "not as it should");
         fflush(stdout);
     }
     listen(false);

@@ -5,6 +5,7 @@
  *
  *     --broker URL --trusted FILE --stun ADDRESS:PORT --relay USER:PASSWORD@ADDRESS:PORT --tcp-relay the same --relay-only, as words.h
  *     --name NAME        --digest N      --here N      --common TEXT
+ *     --door             codes are short, and relays are the door's
  *     --asks yes|no      the host's player lets all in, or nobody
  *     --begin SECONDS    the host begins with those who are there after so many seconds
  *     --leave SECONDS    it leaves so many seconds after it was opened
@@ -55,7 +56,8 @@ static long millis(void) {
 }
 
 static const char *const WHATS[] = {"code", "away", "asks", "joined", "left", "full", "up", "silent", "blocked", "ended"};
-static const char *const WHYS[] = {"-", "no-such-code", "no-seat", "other-game", "not-let-in", "host-left", "other-library", "system"};
+static const char *const WHYS[] = {"-", "no-such-code", "no-seat", "other-game", "not-let-in", "host-left", "other-library", "system",
+                                   "wrong-code", "too-many"};
 
 static void tell_events(void) {
     faz_lobby_event event;
@@ -195,6 +197,9 @@ static int read_option(char **at) {
         to->common_length = strlen(text);
     } else if (read_text(at, "--asks", &self.asks)) {
         words->asks = true;
+    } else if (strcmp(at[0], "--door") == 0) {
+        words->by_door = true;
+        return 1;
     } else if (strcmp(at[0], "--relay-only") == 0) {
         words->relay_only = true;
         return 1;
