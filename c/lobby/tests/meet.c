@@ -38,7 +38,7 @@ static struct {
     long begin, leave, count, stay, within;
     machine machine[FAZGROND_MACHINES];
     uint64_t begun, ready, due, wrong, most, turns, busy;
-    bool has_match, has_all, is_over;
+    bool is_there, has_match, has_all, is_over; /* is_there: at the broker */
 } self = {.words = {.broker = "nats://127.0.0.1:4222"}, .begin = -1, .leave = -1, .count = 60, .within = 20};
 
 static uint64_t micros_of(clockid_t clock) {
@@ -126,6 +126,10 @@ static void turn(void) {
     self.busy += micros_of(CLOCK_THREAD_CPUTIME_ID) - before;
     self.turns++;
     tell_events();
+    if (faz_lobby_stage_of(self.lobby) != FAZ_LOBBY_REACHING && !self.is_there) {
+        self.is_there = true;
+        printf("at %ld reached\n", millis());
+    }
     if (faz_lobby_stage_of(self.lobby) == FAZ_LOBBY_READY && !self.has_match) {
         self.has_match = faz_lobby_get_match(self.lobby, &self.match);
         self.ready = self.due = micros();
