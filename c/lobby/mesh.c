@@ -96,11 +96,12 @@ static void tell_signals(faz_lobby *self, other *to) {
 
 static const char *const WAYS[] = {"no way", "a LAN", "the internet, directly", "a relay"};
 
+/* A line that is heard before this machine has a way to send isn't up yet. */
 static void note_stage(faz_lobby *self, uint32_t machine) {
     other *of = &self->other[machine];
     faz_line_state state;
     faz_line_look(of->line, &state);
-    if (state.stage == of->seen)
+    if (state.stage == of->seen || (state.stage == FAZ_LINE_UP && state.way == FAZ_LINE_NO_WAY))
         return;
     of->seen = state.stage;
     of->was_up = of->was_up || state.stage == FAZ_LINE_UP;
