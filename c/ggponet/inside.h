@@ -162,6 +162,7 @@ struct GGPOSession {
 
     /* The row that the game is given. */
     fazgrond_row row;
+    bool is_turn_begun; /* a local player's input was taken since ggpo_idle or a frame: others' are for the same frame */
     bool is_row_given; /* at this frame, and the game hasn't gone on from it */
     bool in_rollback;
     bool is_advanced;
