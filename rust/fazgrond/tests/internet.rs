@@ -22,9 +22,18 @@ fn two_machines_talk() {
     let (mut one, mut two) = (Keys::draw().unwrap(), Keys::draw().unwrap());
     let (open_one, open_two) = (one.open(), two.open());
     assert_ne!(open_one, open_two);
-    assert_eq!(Line::open(&settings(1, 1), &mut one, &open_two).unwrap_err(), "the two are not two machines of a match");
+    assert_eq!(
+        Line::open(&settings(1, 1), &mut one, &open_two).unwrap_err(),
+        "the two are not two machines of a match"
+    );
     let text = |text: &str| CString::new(text).unwrap();
-    let relay = Relay { address: text("127.0.0.1"), port: 3478, user: text("user"), password: text(&"x".repeat(300)), by_tcp: false };
+    let relay = Relay {
+        address: text("127.0.0.1"),
+        port: 3478,
+        user: text("user"),
+        password: text(&"x".repeat(300)),
+        by_tcp: false,
+    };
     let relayed = LineSettings { relays: vec![relay.clone()], stun: Some((text("127.0.0.1"), 3478)), ..settings(0, 1) };
     assert!(Line::open(&relayed, &mut one, &open_two).unwrap_err().contains("too long"));
     let many = LineSettings { relays: vec![relay.clone(); 5], ..settings(0, 1) };
