@@ -12,7 +12,7 @@
 typedef struct online {
     long host;                /* so many play, and this machine hosts; 0: it joins */
     const char *code, *broker, *trusted, *stun, *relay, *tcp_relay, *name;
-    bool relay_only, asks, by_door;
+    bool relay_only, asks, by_door, lasts;
     /* What was met. */
     int players;
     bool is_local[DUEL_SHIPS]; /* player 1 first */

@@ -23,7 +23,7 @@ bool asking_is_over(const faz_lobby *self) {
 /* A plate is asked for again before it is somebody else's, and passwords before they end. */
 static bool is_due(const faz_lobby *self) {
     const door_asking *asks = &self->door;
-    bool keeps_plate = asks->request.kind == DOOR_HOSTS && !self->is_ready;
+    bool keeps_plate = asks->request.kind == DOOR_HOSTS && (!self->is_ready || self->table.lasts);
     uint32_t again = keeps_plate ? KEPT_AGAIN : asks->seconds > 0 && asks->seconds < UINT32_MAX / 1000 ? asks->seconds * 500 : UINT32_MAX / 2;
     return !asks->has_said || (asks->is_answered ? lobby_since(self, asks->answered_at) >= again : true);
 }
@@ -31,7 +31,9 @@ static bool is_due(const faz_lobby *self) {
 static void say(faz_lobby *self) {
     door_asking *asks = &self->door;
     uint8_t message[DOOR_MESSAGE];
-    if (self->is_ready)
+    if (self->is_ready && !self->table.lasts)
+        asks->request.kind = DOOR_RELAYS;
+    if (self->is_ready && asks->request.kind == DOOR_JOINS)
         asks->request.kind = DOOR_RELAYS;
     if (!broker_say(self->broker, DOOR_SUBJECT, self->inbox_name, message, door_request_write(&asks->request, message)))
         return;

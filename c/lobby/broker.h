@@ -34,7 +34,7 @@ const char *broker_why(const broker *self);
 /* This machine's addresses have changed: a new connection is made beside the one that there is. */
 void broker_renew(broker *self);
 
-/* Hears a subject from now on, in the place of the one that it heard there. There are two places. */
+/* Hears a subject from now on, in the place of the one that it heard there. There are three places. */
 void broker_hear(broker *self, int place, const char *subject);
 
 /* False: it isn't said. `reply` may be null; else who hears it may answer there, and if nobody hears it that is told. */

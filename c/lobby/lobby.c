@@ -65,6 +65,7 @@ faz_lobby_stage faz_lobby_stage_of(const faz_lobby *self) {
 static const char *take_settings(faz_lobby *self, const faz_lobby_settings *settings) {
     self->here = settings->here != 0 ? settings->here : 1;
     self->digest = settings->digest;
+    self->lasts = settings->lasts;
     name_clean(self->name, settings->name != NULL && *settings->name != 0 ? settings->name : "a player");
     if (self->here > FAZGROND_PLAYERS)
         return "there are more players at this machine than a match has";
@@ -192,8 +193,11 @@ void faz_lobby_close(faz_lobby *self) {
 /* ---- a turn */
 
 static void hear(faz_lobby *self, const broker_message *message) {
-    if (!message->is_nobody && message->length > 0 && message->bytes[0] == SIGNAL)
+    bool is_of_mesh = !message->is_nobody && message->length > 0 && (message->bytes[0] == SIGNAL || message->bytes[0] == NEWS);
+    if (is_of_mesh)
         mesh_hear(self, message);
+    else if (late_hear(self, message))
+        return;
     else if (!message->is_nobody && message->length > 0 && message->bytes[0] == DOOR_ANSWER)
         asking_hear(self, message);
     else if (self->is_host && !message->is_nobody)
@@ -250,9 +254,20 @@ void faz_lobby_turn(faz_lobby *self, uint32_t now) {
     else
         join_turn(self);
     mesh_turn(self);
+    late_turn(self);
 }
 
 /* ---- the match */
+
+/* What is the same at all, and another number for each who comes. */
+static uint64_t ticket_of(const table *from, uint32_t machine) {
+    uint8_t hash[16], number[8];
+    uint64_t ticket;
+    crypto_generichash(hash, sizeof hash, from->member[machine].open, KEY, from->key, KEY);
+    memcpy(number, hash, sizeof number);
+    memcpy(&ticket, number, sizeof ticket);
+    return ticket | 1;
+}
 
 bool faz_lobby_get_match(const faz_lobby *self, faz_lobby_match *match) {
     if (!self->is_known)
@@ -264,10 +279,14 @@ bool faz_lobby_get_match(const faz_lobby *self, faz_lobby_match *match) {
     memcpy(match->owners, self->table.owners, sizeof match->owners);
     match->number = self->table.number;
     match->digest = self->digest;
+    match->is_late = self->table.is_late;
+    if (self->table.lasts)
+        code_write(self->table.code, match->code);
     match->common_length = self->table.common_length;
     memcpy(match->common, self->table.common, self->table.common_length);
     for (uint32_t at = 0; at < match->machines; at++) {
         strcpy(match->names[at], self->table.member[at].name);
+        match->tickets[at] = ticket_of(&self->table, at);
         match->numbers[at] = self->other[at].line != NULL ? faz_line_number(self->other[at].line) : 0;
     }
     return true;

@@ -44,6 +44,7 @@ typedef struct faz_lobby_settings {
     const char *name;      /* of who plays here, as the others see it; null: "a player" */
     uint64_t digest;       /* of all that has to be alike at all machines: another one is refused before any line is made */
     uint32_t here;         /* how many players sit at this machine; 0 is 1 */
+    bool lasts;            /* whoever stops can come back into the match, or somebody else in its place (FAZ_LOBBY_COMES) */
     /* The host's alone. */
     uint32_t players;      /* how many play, 2 to FAZGROND_PLAYERS, those at this machine among them */
     bool asks;             /* who joins has to be let in by faz_lobby_let_in */
@@ -72,7 +73,9 @@ typedef enum faz_lobby_what {
     FAZ_LOBBY_UP,      /* the line to a machine is up, or has come back. `text` says by which way */
     FAZ_LOBBY_SILENT,  /* nothing comes from a machine for a second: another way is looked for */
     FAZ_LOBBY_BLOCKED, /* no way to a machine was found in six seconds; it is looked for again and again */
-    FAZ_LOBBY_ENDED    /* it won't come to a match: `why`, and in words `text` */
+    FAZ_LOBBY_ENDED,   /* it won't come to a match: `why`, and in words `text` */
+    FAZ_LOBBY_COMES    /* in a match that `lasts`: a machine that was silent is `name`'s from now on, who has come back or is new. The
+                        * line to it is another one, with another number */
 } faz_lobby_what;
 
 typedef enum faz_lobby_why {
@@ -103,6 +106,10 @@ typedef struct faz_lobby_match {
     uint32_t owners[FAZGROND_PLAYERS];   /* the machine of each player; FAZGROND_NO_PLAYER if there is none */
     uint64_t numbers[FAZGROND_MACHINES]; /* with each machine a number that only these two know */
     uint64_t number;                     /* one that all machines of the match know, and nobody else */
+    uint64_t tickets[FAZGROND_MACHINES]; /* of each machine another number, the same at all, and another one for who comes in its place:
+                                          * that of a seat of c/rejoin */
+    bool is_late;                        /* this machine has come into a match that runs already */
+    char code[FAZ_LOBBY_CODE_ROOM];      /* by which whoever stops comes back, if the match `lasts`; else empty */
     uint64_t digest;
     char names[FAZGROND_MACHINES][FAZ_LOBBY_NAME_ROOM];
     size_t common_length;

@@ -16,6 +16,7 @@ typedef struct lobby_words {
     const char *name;      /* --name NAME */
     bool relay_only;       /* --relay-only */
     bool asks;             /* --ask */
+    bool lasts;            /* --rejoin, or what the program calls it */
     bool by_door;          /* --door: short codes, and relays if none are named */
     char texts[3][LOBBY_WORDS_ROOM]; /* what settings point at */
 } lobby_words;
