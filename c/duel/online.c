@@ -111,7 +111,8 @@ bool online_seal(GGPOSession *session) {
     for (uint32_t at = 0; at < self.match.players; at++) {
         uint32_t machine = self.match.owners[at];
         if (machine != self.match.me)
-            is_sealed = is_sealed && GGPO_SUCCEEDED(fazggpo_set_number(session, (GGPOPlayerHandle)at + 1, self.match.numbers[machine]));
+            is_sealed = is_sealed
+                && GGPO_SUCCEEDED(fazggpo_set_number(session, (GGPOPlayerHandle)at + 1, self.match.numbers[machine]));
     }
     return is_sealed;
 }

@@ -1,5 +1,5 @@
-/* A connection to a NATS broker that is polled: what it hears is fetched, and nothing waits. It is opened, and opened anew if it breaks,
- * beside the game. What is said while it isn't there is lost. */
+/* A connection to a NATS broker that is polled: what it hears is fetched, and nothing waits. It is opened, and opened anew if it
+ * breaks, beside the game. What is said while it isn't there is lost. */
 #ifndef FAZ_LOBBY_BROKER_H
 #define FAZ_LOBBY_BROKER_H
 

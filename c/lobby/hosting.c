@@ -228,7 +228,8 @@ static void note_ask(faz_lobby *self, guest *one, const ask *came) {
 }
 
 /* What a guest says now; false if nobody has said so, or it is an old message. */
-static bool read_ask(faz_lobby *self, guest *one, const room *in, const uint8_t open[KEY], const broker_message *message, ask *came) {
+static bool read_ask(faz_lobby *self, guest *one, const room *in, const uint8_t open[KEY], const broker_message *message,
+                     ask *came) {
     bool is_new = one->stage == GUEST_NONE;
     if (is_new && !pair_of(&one->pair, in, self->keys.open, self->keys.secret, open))
         return false;

@@ -9,7 +9,14 @@
 #include "lobby.h"
 #include "messages.h"
 
-enum { EVENTS = 64, GUESTS = 16, EARLY = 24, EARLY_BYTES = FAZ_LINE_SIGNAL + SIGNAL_HEAD + SEAL, ADDRESS_TEXT = 64, WORD_TEXT = 256 };
+enum {
+    EVENTS = 64,
+    GUESTS = 16,
+    EARLY = 24,
+    EARLY_BYTES = FAZ_LINE_SIGNAL + SIGNAL_HEAD + SEAL,
+    ADDRESS_TEXT = 64,
+    WORD_TEXT = 256
+};
 
 /* ---- The host's: who has asked to join. */
 

@@ -1,12 +1,12 @@
-/* Who comes into a match that runs: the machine with the lowest number that is there answers, gives it the place of one that is silent, and
- * tells the others. */
+/* Who comes into a match that runs: the machine with the lowest number that is there answers, gives it the place of one that is
+ * silent, and tells the others. */
 #include "inside.h"
 
 #include <sodium.h>
 #include <string.h>
 
-/* Milliseconds for which a machine has to be silent, before its own player is back and before somebody else comes; between two answers and
- * two times that the others are told, and for how long; and without anything of who comes. */
+/* Milliseconds for which a machine has to be silent, before its own player is back and before somebody else comes; between two
+ * answers and two times that the others are told, and for how long; and without anything of who comes. */
 enum { BACK_AFTER = 1500, OTHER_AFTER = 5000, TOLD_AGAIN = 500, TOLD_FOR = 10000, GONE_AFTER = 10000 };
 
 void late_begin(faz_lobby *self) {
@@ -156,7 +156,8 @@ static void take_in(faz_lobby *self, comer *one, const ask *came, const room *in
     pair_words(&one->pair, event->text);
 }
 
-static void hear_ask(faz_lobby *self, const broker_message *message, const uint8_t inbox[INBOX], const room *in, const uint8_t open[KEY]) {
+static void hear_ask(faz_lobby *self, const broker_message *message, const uint8_t inbox[INBOX], const room *in,
+                     const uint8_t open[KEY]) {
     ask came;
     comer *one = host_is_gone(self, open) ? NULL : comer_of(self, open);
     if (one == NULL)
@@ -228,8 +229,7 @@ void late_turn(faz_lobby *self) {
             tell_others(self, one);
             one->told_at = self->now;
         }
-        bool is_over = one->is_placed ? lobby_since(self, one->placed_at) >= TOLD_FOR : lobby_since(self, one->heard_at) >= GONE_AFTER;
-        if (is_over)
+        if (lobby_since(self, one->is_placed ? one->placed_at : one->heard_at) >= (one->is_placed ? TOLD_FOR : GONE_AFTER))
             forget(self, one);
     }
 }

@@ -82,7 +82,8 @@ bool knock_read(knock *self, message_kind kind, const uint8_t *bytes, size_t len
 
 /* ---- what all who have the code can read */
 
-static size_t seal_for_all(const room *in, uint8_t out[BROKER_MESSAGE], message_kind kind, const uint8_t *inside, const cursor *end) {
+static size_t seal_for_all(const room *in, uint8_t out[BROKER_MESSAGE], message_kind kind, const uint8_t *inside,
+                           const cursor *end) {
     size_t length = (size_t)(end->at - inside);
     out[0] = (uint8_t)kind;
     room_seal(in, out + 1, (uint8_t)kind, inside, length);

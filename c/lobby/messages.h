@@ -1,5 +1,6 @@
-/* What machines of a lobby say to each other, as bytes. Who joins says hello, and the host offers the key by which it speaks; then who joins
- * asks to be let in, again and again, and is answered each time how it stands, at last with the table of the match. */
+/* What machines of a lobby say to each other, as bytes. Who joins says hello, and the host offers the key by which it speaks;
+ * then who joins asks to be let in, again and again, and is answered each time how it stands, at last with the table of the
+ * match. */
 #ifndef FAZ_LOBBY_MESSAGES_H
 #define FAZ_LOBBY_MESSAGES_H
 
@@ -15,7 +16,16 @@ enum {
 };
 
 /* The first byte of a message. */
-typedef enum message_kind { KNOCK = 'k', KNOCKED = 'n', HELLO = 'h', OFFER = 'o', ASK = 'a', ANSWER = 's', SIGNAL = 'g', NEWS = 'w' } message_kind;
+typedef enum message_kind {
+    KNOCK = 'k',
+    KNOCKED = 'n',
+    HELLO = 'h',
+    OFFER = 'o',
+    ASK = 'a',
+    ANSWER = 's',
+    SIGNAL = 'g',
+    NEWS = 'w'
+} message_kind;
 
 /* With a short code who joins and the host get a key by it first, in two messages of each (pake.h). */
 typedef struct knock {

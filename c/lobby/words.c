@@ -64,7 +64,8 @@ const char *lobby_words_read(lobby_words *words, faz_lobby_settings *settings) {
     settings->asks = words->asks;
     settings->lasts = words->lasts;
     settings->has_door = settings->short_code = words->by_door;
-    if (words->stun != NULL && (!copied(words->texts[0], words->stun) || !split(words->texts[0], &settings->stun, &settings->stun_port)))
+    if (words->stun != NULL
+        && (!copied(words->texts[0], words->stun) || !split(words->texts[0], &settings->stun, &settings->stun_port)))
         return "--stun has no ADDRESS:PORT";
     if (words->relay != NULL && !read_relay(words->relay, words->texts[1], false, settings))
         return "--relay has no USER:PASSWORD@ADDRESS:PORT";

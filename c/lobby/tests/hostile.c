@@ -1,5 +1,6 @@
-/* Strangers on the broker, and friends who lie: hostile URL [short]. Lobbies of one process, and beside them somebody who hears all that is
- * said on the broker, says it again, changes it, and says what it likes. With `short` codes are short, and there is a door. */
+/* Strangers on the broker, and friends who lie: hostile URL [short]. Lobbies of one process, and beside them somebody who hears
+ * all that is said on the broker, says it again, changes it, and says what it likes. With `short` codes are short, and there is
+ * a door. */
 #define _POSIX_C_SOURCE 200809L
 
 #include "../inside.h"
@@ -400,8 +401,8 @@ static void test_host_leaves(void) {
     forget();
 }
 
-/* A machine of the match says that another one, which is there, is somebody else; that a place is another's which isn't there; and it says
- * so in a third one's name. Nobody believes it. And who has the code gets no place of those who are there. */
+/* A machine of the match says that another one, which is there, is somebody else; that a place is another's which isn't there;
+ * and it says so in a third one's name. Nobody believes it. And who has the code gets no place of those who are there. */
 static void test_false_news(void) {
     uint8_t message[BROKER_MESSAGE], secret[KEY];
     news lie = {.counter = 1, .who = {.name = "liar"}};

@@ -1,7 +1,7 @@
 /* One machine of a lobby: meet host PLAYERS [OPTION..] | meet join CODE [OPTION..]
  *
- * It tells each event, meets the others, and then sends each of them datagrams with their number, 60 a second. What was agreed on and what
- * came is told at the end.
+ * It tells each event, meets the others, and then sends each of them datagrams with their number, 60 a second. What was agreed
+ * on and what came is told at the end.
  *
  *     --broker URL --trusted FILE --stun ADDRESS:PORT --relay USER:PASSWORD@ADDRESS:PORT --tcp-relay the same --relay-only, as words.h
  *     --name NAME        --digest N      --here N      --common TEXT
