@@ -124,7 +124,7 @@ faz_lobby *faz_lobby_host(const faz_lobby_settings *settings, const char **why);
  * code. */
 faz_lobby *faz_lobby_join(const faz_lobby_settings *settings, const char *code, const char **why);
 
-/* Closes it, and all its lines; before a match the others are told. It may take 0.3 seconds. Null is none. */
+/* Closes it, and all its lines; before a match the others are told. It may take half a second. Null is none. */
 void faz_lobby_close(faz_lobby *lobby);
 
 /* Once a turn. `now` is the time in milliseconds, which begins anew after 2^32. */

@@ -1,11 +1,16 @@
 /* A line with each other machine. */
 #include "inside.h"
 
+#include "../line/ice.h"
+
 #include <sodium.h>
 #include <string.h>
 
 /* Milliseconds after which another machine's word is taken that a machine is gone. */
 enum { NOT_HEARD = 1000 };
+
+/* So many of them lines have to be closed. */
+enum { LAST = 300 };
 
 static bool is_other(const faz_lobby *self, uint32_t machine) {
     return self->is_known && machine < self->table.machines && machine != self->table.me;
@@ -72,14 +77,17 @@ static void closed(void *of) {
     (void)of;
 }
 
-/* The old line is closed beside the game, since that may take a while. */
+/* A line is closed beside the game, since that may take a while. Null: it is closed already. */
+static aside *close_aside(faz_line *line) {
+    aside *job = line != NULL ? aside_begin(close_line, closed, line) : NULL;
+    if (job == NULL)
+        faz_line_close(line);
+    return job;
+}
+
 void mesh_replace(faz_lobby *self, uint32_t place, const member *who) {
     other *to = &self->other[place];
-    faz_line *old = to->line;
-    aside *job = old != NULL ? aside_begin(close_line, closed, old) : NULL;
-    if (old != NULL && job == NULL)
-        faz_line_close(old);
-    aside_leave(job);
+    aside_leave(close_aside(to->line));
     memset(to, 0, sizeof *to);
     self->table.member[place] = *who;
     lobby_tell(self, FAZ_LOBBY_COMES, place, who->name);
@@ -87,9 +95,22 @@ void mesh_replace(faz_lobby *self, uint32_t place, const member *who) {
         open_line(self, place);
 }
 
+static bool are_over(aside *const jobs[FAZGROND_MACHINES]) {
+    for (int at = 0; at < FAZGROND_MACHINES; at++)
+        if (jobs[at] != NULL && !aside_is_over(jobs[at]))
+            return false;
+    return true;
+}
+
+/* All at once. */
 void mesh_close(faz_lobby *self) {
-    for (uint32_t machine = 0; machine < FAZGROND_MACHINES; machine++)
-        faz_line_close(self->other[machine].line);
+    aside *jobs[FAZGROND_MACHINES];
+    for (int at = 0; at < FAZGROND_MACHINES; at++)
+        jobs[at] = close_aside(self->other[at].line);
+    for (int waited = 0; !are_over(jobs) && waited < LAST; waited++)
+        ice_wait();
+    for (int at = 0; at < FAZGROND_MACHINES; at++)
+        aside_leave(jobs[at]);
 }
 
 /* ---- signals */
