@@ -110,12 +110,17 @@ static const char *take_match(faz_lobby *self, const faz_lobby_settings *setting
     return NULL;
 }
 
-/* A code that is a hash of the host's key. */
+/* A code that is a hash of the host's key: it is told once friends can be heard. */
 static void open_by_hash(faz_lobby *self) {
     uint8_t code[CODE_BYTES];
     code_of(code, self->hosting.open);
     enter(self, code);
     broker_hear(self->broker, 1, self->room_name);
+}
+
+static void tell_code(faz_lobby *self) {
+    uint8_t code[CODE_BYTES];
+    code_of(code, self->hosting.open);
     code_write(code, lobby_tell(self, FAZ_LOBBY_CODE, 0, self->name)->text);
 }
 
@@ -223,6 +228,8 @@ static void look_at_broker(faz_lobby *self) {
     }
     if (is_there)
         self->is_away_told = false;
+    if (is_there && !self->has_been_there && self->is_host && !self->hosting.has_short_code)
+        tell_code(self);
     self->has_been_there = self->has_been_there || is_there;
 }
 

@@ -62,7 +62,8 @@ typedef enum faz_lobby_stage {
 } faz_lobby_stage;
 
 typedef enum faz_lobby_what {
-    FAZ_LOBBY_CODE,    /* the host's code, in `text`: friends join by it. A short one is another one after five wrong tries */
+    FAZ_LOBBY_CODE,    /* the host's code, in `text`: friends join by it. It is told once the broker is there. A short one is another
+                        * one after five wrong tries */
     FAZ_LOBBY_AWAY,    /* the broker or the door isn't there, and is tried again and again, or a server's name isn't known: `text`
                         * says which */
     FAZ_LOBBY_ASKS,    /* `name` wants to join, and `who` is for faz_lobby_let_in. At who joins: the player of `name`, who hosts, is
