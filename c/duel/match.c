@@ -405,6 +405,7 @@ static int run(bool is_ready, int port) {
 static int run_online(void) {
     int status = 2;
     self.online.broker = self.cast.broker;
+    self.online.lasts = self.can_rejoin;
     if (online_meet(&self.online)) {
         self.players = self.online.players;
         duel_open(&self.now.field, (uint32_t)self.players);

@@ -41,7 +41,7 @@ static bool open(const online *wish) {
     faz_lobby_settings settings = { .digest = DIGEST, .players = (uint32_t)wish->host, .any_sender = true };
     self.words = (lobby_words){ .broker = wish->broker, .trusted = wish->trusted, .stun = wish->stun, .relay = wish->relay,
                                 .tcp_relay = wish->tcp_relay, .name = wish->name, .relay_only = wish->relay_only,
-                                .asks = wish->asks, .by_door = wish->by_door };
+                                .asks = wish->asks, .by_door = wish->by_door, .lasts = wish->lasts };
     const char *why = lobby_words_read(&self.words, &settings);
     if (why == NULL)
         self.lobby = wish->host > 0 ? faz_lobby_host(&settings, &why) : faz_lobby_join(&settings, wish->code, &why);
@@ -61,6 +61,8 @@ bool online_meet(online *wish) {
     if (faz_lobby_stage_of(self.lobby) != FAZ_LOBBY_READY || !faz_lobby_get_match(self.lobby, &self.match)
         || self.match.players > DUEL_SHIPS)
         return false;
+    if (self.match.code[0] != 0)
+        fprintf(stderr, "whoever stops comes back by --join %s\n", self.match.code);
     wish->players = (int)self.match.players;
     for (int at = 0; at < wish->players; at++)
         wish->is_local[at] = self.match.owners[at] == self.match.me;
@@ -109,7 +111,8 @@ bool online_seal(GGPOSession *session) {
     for (uint32_t at = 0; at < self.match.players; at++) {
         uint32_t machine = self.match.owners[at];
         if (machine != self.match.me)
-            is_sealed = is_sealed && GGPO_SUCCEEDED(fazggpo_set_number(session, (GGPOPlayerHandle)at + 1, self.match.numbers[machine]));
+            is_sealed = is_sealed
+                && GGPO_SUCCEEDED(fazggpo_set_number(session, (GGPOPlayerHandle)at + 1, self.match.numbers[machine]));
     }
     return is_sealed;
 }

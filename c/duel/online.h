@@ -1,5 +1,5 @@
-/* A match of the duel whose machines meet by a code (docs/ONLINE.md). Without DUEL_ONLINE there is none, and neither the NATS library nor
- * libnice is needed. */
+/* A match of the duel whose machines meet by a code (docs/ONLINE.md). Without DUEL_ONLINE there is none, and neither the NATS
+ * library nor libnice is needed. */
 #ifndef DUEL_ONLINE_H
 #define DUEL_ONLINE_H
 
@@ -12,7 +12,7 @@
 typedef struct online {
     long host;                /* so many play, and this machine hosts; 0: it joins */
     const char *code, *broker, *trusted, *stun, *relay, *tcp_relay, *name;
-    bool relay_only, asks, by_door;
+    bool relay_only, asks, by_door, lasts;
     /* What was met. */
     int players;
     bool is_local[DUEL_SHIPS]; /* player 1 first */
@@ -23,7 +23,8 @@ typedef struct online {
 bool online_meet(online *self);
 /* A player as the session is to add it. */
 void online_player(const online *self, int number, GGPOPlayer *player);
-/* The session goes over the lines, and its packets are sealed by numbers of the lobby: one of the match, before the players are added .. */
+/* The session goes over the lines, and its packets are sealed by numbers of the lobby: one of the match, before the players are
+ * added .. */
 bool online_take(GGPOSession *session);
 /* .. and one of each pair, once they are, if nobody can come back. */
 bool online_seal(GGPOSession *session);

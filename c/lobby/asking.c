@@ -17,21 +17,24 @@ void asking_begin(faz_lobby *self, door_kind kind, bool takes_relays) {
 }
 
 bool asking_is_over(const faz_lobby *self) {
-    return !self->door.is_used || self->door.is_answered || (self->door.has_said && lobby_since(self, self->door.began_at) >= WITHOUT);
+    const door_asking *asks = &self->door;
+    return !asks->is_used || asks->is_answered || (asks->has_said && lobby_since(self, asks->began_at) >= WITHOUT);
 }
 
 /* A plate is asked for again before it is somebody else's, and passwords before they end. */
 static bool is_due(const faz_lobby *self) {
     const door_asking *asks = &self->door;
-    bool keeps_plate = asks->request.kind == DOOR_HOSTS && !self->is_ready;
-    uint32_t again = keeps_plate ? KEPT_AGAIN : asks->seconds > 0 && asks->seconds < UINT32_MAX / 1000 ? asks->seconds * 500 : UINT32_MAX / 2;
-    return !asks->has_said || (asks->is_answered ? lobby_since(self, asks->answered_at) >= again : true);
+    bool keeps_plate = asks->request.kind == DOOR_HOSTS && (!self->is_ready || self->table.lasts);
+    uint32_t half = asks->seconds > 0 && asks->seconds < UINT32_MAX / 1000 ? asks->seconds * 500 : UINT32_MAX / 2;
+    return !asks->is_answered || lobby_since(self, asks->answered_at) >= (keeps_plate ? KEPT_AGAIN : half);
 }
 
 static void say(faz_lobby *self) {
     door_asking *asks = &self->door;
     uint8_t message[DOOR_MESSAGE];
-    if (self->is_ready)
+    if (self->is_ready && !self->table.lasts)
+        asks->request.kind = DOOR_RELAYS;
+    if (self->is_ready && asks->request.kind == DOOR_JOINS)
         asks->request.kind = DOOR_RELAYS;
     if (!broker_say(self->broker, DOOR_SUBJECT, self->inbox_name, message, door_request_write(&asks->request, message)))
         return;
@@ -39,6 +42,10 @@ static void say(faz_lobby *self) {
         asks->began_at = self->now;
     asks->has_said = true;
     asks->said_at = self->now;
+}
+
+static void tell_away(faz_lobby *self, const char *why) {
+    lobby_copy(lobby_tell(self, FAZ_LOBBY_AWAY, FAZGROND_NO_MACHINE, "")->text, FAZ_LOBBY_TEXT_ROOM, why);
 }
 
 void asking_turn(faz_lobby *self) {
@@ -50,7 +57,7 @@ void asking_turn(faz_lobby *self) {
     if (asks->is_answered || asks->is_away_told || !asks->has_said || lobby_since(self, asks->began_at) < NO_ANSWER)
         return;
     asks->is_away_told = true;
-    lobby_copy(lobby_tell(self, FAZ_LOBBY_AWAY, FAZGROND_NO_MACHINE, "")->text, FAZ_LOBBY_TEXT_ROOM, "the door beside the broker doesn't answer");
+    tell_away(self, "the door beside the broker doesn't answer");
 }
 
 void asking_hear(faz_lobby *self, const broker_message *message) {
@@ -71,6 +78,5 @@ void asking_hear(faz_lobby *self, const broker_message *message) {
     else if (came.status == DOOR_OK && asks->request.kind == DOOR_HOSTS && memcmp(came.token, asks->request.token, DOOR_TOKEN) == 0)
         knock_plate(self, came.plate);
     else if (came.status != DOOR_OK)
-        lobby_copy(lobby_tell(self, FAZ_LOBBY_AWAY, FAZGROND_NO_MACHINE, "")->text, FAZ_LOBBY_TEXT_ROOM,
-                   came.status == DOOR_FULL ? "the door has no codes left" : "the door was asked too often from this address");
+        tell_away(self, came.status == DOOR_FULL ? "the door has no codes left" : "the door was asked too often from this address");
 }

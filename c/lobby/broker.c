@@ -8,7 +8,7 @@
 #include <stdlib.h>
 #include <string.h>
 
-enum { SERVERS = 16, TEXT = 1024, HEARD = 2, KEPT = 256, KEPT_BYTES = 1 << 18 };
+enum { SERVERS = 16, TEXT = 1024, HEARD = 3, KEPT = 256, KEPT_BYTES = 1 << 18 };
 
 /* Milliseconds. */
 enum { PATIENCE = 2000, AGAIN = 1000, RECONNECT = 200, PING = 2000, FLUSH = 150, LAST = 200 };

@@ -1,5 +1,5 @@
-/* A connection to a NATS broker that is polled: what it hears is fetched, and nothing waits. It is opened, and opened anew if it breaks,
- * beside the game. What is said while it isn't there is lost. */
+/* A connection to a NATS broker that is polled: what it hears is fetched, and nothing waits. It is opened, and opened anew if it
+ * breaks, beside the game. What is said while it isn't there is lost. */
 #ifndef FAZ_LOBBY_BROKER_H
 #define FAZ_LOBBY_BROKER_H
 
@@ -34,7 +34,7 @@ const char *broker_why(const broker *self);
 /* This machine's addresses have changed: a new connection is made beside the one that there is. */
 void broker_renew(broker *self);
 
-/* Hears a subject from now on, in the place of the one that it heard there. There are two places. */
+/* Hears a subject from now on, in the place of the one that it heard there. There are three places. */
 void broker_hear(broker *self, int place, const char *subject);
 
 /* False: it isn't said. `reply` may be null; else who hears it may answer there, and if nobody hears it that is told. */

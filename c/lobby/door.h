@@ -1,6 +1,6 @@
-/* What a lobby and the door say to each other, as bytes. The door is a program beside the broker: it draws short codes, of which the first
- * part is a plate, tells who has a plate where its host is heard, and gives out users and passwords of relays. It never sees the second
- * part of a code. Answers are sealed for who asked. */
+/* What a lobby and the door say to each other, as bytes. The door is a program beside the broker: it draws short codes, of which
+ * the first part is a plate, tells who has a plate where its host is heard, and gives out users and passwords of relays. It
+ * never sees the second part of a code. Answers are sealed for who asked. */
 #ifndef FAZ_DOOR_H
 #define FAZ_DOOR_H
 

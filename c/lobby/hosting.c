@@ -28,6 +28,7 @@ static void tell(faz_lobby *self, guest *to) {
         text.what = BEGINS;
         text.table = self->table;
         text.table.me = to->machine;
+        host_vouch(text.table.proof, self->hosting.secret, to->pair.theirs);
     } else if (to->stage == GUEST_SEATED) {
         text.what = SEATED;
     }
@@ -60,11 +61,22 @@ static void seat(faz_lobby *self, guest *one) {
     pair_words(&one->pair, event->text);
 }
 
+void host_note_gone(faz_lobby *self, const uint8_t open[KEY]) {
+    memcpy(self->hosting.gone[self->hosting.gones++ % GUESTS], open, KEY);
+}
+
+bool host_is_gone(const faz_lobby *self, const uint8_t open[KEY]) {
+    for (int at = 0; at < GUESTS; at++)
+        if (memcmp(self->hosting.gone[at], open, KEY) == 0)
+            return true;
+    return false;
+}
+
 /* Forgets a guest, but for its key: what it has said may be said again by others. */
 static void forget(faz_lobby *self, guest *one) {
     if (one->stage == GUEST_SEATED || one->stage == GUEST_ASKS)
         lobby_tell(self, FAZ_LOBBY_LEFT, FAZGROND_NO_MACHINE, one->name)->who = one->who;
-    memcpy(self->hosting.gone[self->hosting.gones++ % GUESTS], one->pair.theirs, KEY);
+    host_note_gone(self, one->pair.theirs);
     sodium_memzero(one, sizeof *one);
 }
 
@@ -88,6 +100,11 @@ static void lay_table(faz_lobby *self) {
         to->owners[at] = FAZGROND_NO_PLAYER;
     randombytes_buf(&to->number, sizeof to->number);
     randombytes_buf(to->key, KEY);
+    to->lasts = self->lasts;
+    to->asks = self->hosting.asks;
+    memcpy(to->host, self->hosting.open, KEY);
+    code_of(to->code, to->host);
+    host_vouch(to->proof, self->hosting.secret, self->keys.open);
     place(self, self->keys.open, self->inbox, self->name, self->here);
     for (int at = 0; at < GUESTS; at++) {
         guest *one = &self->hosting.guest[at];
@@ -115,6 +132,8 @@ bool faz_lobby_begin(faz_lobby *self) {
 }
 
 bool faz_lobby_let_in(faz_lobby *self, uint32_t who, bool yes) {
+    if (self->is_known)
+        return late_let_in(self, who, yes);
     for (int at = 0; at < GUESTS && self->is_host; at++) {
         guest *one = &self->hosting.guest[at];
         if (one->stage != GUEST_ASKS || one->who != who)
@@ -165,13 +184,6 @@ static const room *room_of_ask(const faz_lobby *self, uint8_t open[KEY], const b
     return NULL;
 }
 
-static bool is_gone(const faz_lobby *self, const uint8_t open[KEY]) {
-    for (int at = 0; at < GUESTS; at++)
-        if (memcmp(self->hosting.gone[at], open, KEY) == 0)
-            return true;
-    return false;
-}
-
 /* The guest who has this key, or a free place for one; null if there is none. */
 static guest *guest_of(faz_lobby *self, const uint8_t open[KEY]) {
     guest *free = NULL;
@@ -216,7 +228,8 @@ static void note_ask(faz_lobby *self, guest *one, const ask *came) {
 }
 
 /* What a guest says now; false if nobody has said so, or it is an old message. */
-static bool read_ask(faz_lobby *self, guest *one, const room *in, const uint8_t open[KEY], const broker_message *message, ask *came) {
+static bool read_ask(faz_lobby *self, guest *one, const room *in, const uint8_t open[KEY], const broker_message *message,
+                     ask *came) {
     bool is_new = one->stage == GUEST_NONE;
     if (is_new && !pair_of(&one->pair, in, self->keys.open, self->keys.secret, open))
         return false;
@@ -227,7 +240,7 @@ static void hear_ask(faz_lobby *self, const broker_message *message, const uint8
     uint8_t open[KEY];
     ask came;
     const room *in = room_of_ask(self, open, message);
-    guest *one = in != NULL && !is_gone(self, open) ? guest_of(self, open) : NULL;
+    guest *one = in != NULL && !host_is_gone(self, open) ? guest_of(self, open) : NULL;
     if (one == NULL || !read_ask(self, one, in, open, message, &came))
         return;
     bool is_new = one->stage == GUEST_NONE;
@@ -250,7 +263,7 @@ void host_hear(faz_lobby *self, const broker_message *message) {
     uint8_t inbox[INBOX];
     if (message->length == 0 || !inbox_read(message->reply, inbox))
         return;
-    if (message->bytes[0] == KNOCK && self->hosting.has_short_code && !self->is_ready)
+    if (message->bytes[0] == KNOCK && self->hosting.has_short_code && (!self->is_ready || self->table.lasts))
         knock_hear(self, message, inbox);
     else if (message->bytes[0] == HELLO)
         hear_hello(self, message, inbox);

@@ -9,7 +9,14 @@
 #include "lobby.h"
 #include "messages.h"
 
-enum { EVENTS = 64, GUESTS = 16, EARLY = 24, EARLY_BYTES = FAZ_LINE_SIGNAL + SIGNAL_HEAD + SEAL, ADDRESS_TEXT = 64, WORD_TEXT = 256 };
+enum {
+    EVENTS = 64,
+    GUESTS = 16,
+    EARLY = 24,
+    EARLY_BYTES = FAZ_LINE_SIGNAL + SIGNAL_HEAD + SEAL,
+    ADDRESS_TEXT = 64,
+    WORD_TEXT = 256
+};
 
 /* ---- The host's: who has asked to join. */
 
@@ -54,7 +61,7 @@ typedef struct hosting {
     char plate[PLATE_TEXT], secret_signs[SHORT_SECRET];
     knocker knocker[KNOCKERS];
     uint32_t wrong; /* tries at this code */
-    uint32_t named; /* the last number of a guest */
+    uint32_t named; /* the last number of a guest, or of who comes */
     guest guest[GUESTS];
     uint8_t gone[GUESTS][KEY]; /* keys of those who were there, of whom old messages may come again */
     uint32_t gones;
@@ -79,6 +86,21 @@ typedef struct joining {
     uint32_t said_at, heard_at;
 } joining;
 
+/* ---- Who comes into a match that runs, at the machine that answers. */
+
+typedef struct comer {
+    bool is_there, is_asked, is_let_in, is_placed;
+    uint32_t who, place;
+    room room;
+    pair pair;
+    uint8_t inbox[INBOX];
+    char name[FAZ_LOBBY_NAME_ROOM];
+    uint32_t here, counter, answers;
+    uint32_t heard_at, told_at, placed_at, news;
+} comer;
+
+enum { COMERS = 4 };
+
 /* ---- Lines with the others. */
 
 typedef struct other {
@@ -87,6 +109,7 @@ typedef struct other {
     faz_line *line;
     faz_line_stage seen;
     bool was_up;
+    uint32_t news; /* the last that came of it */
 } other;
 
 typedef struct early {
@@ -126,6 +149,10 @@ struct faz_lobby {
     aside *looking; /* up names of servers, into */
     servers *looked_up;
     room room, mesh; /* where they meet, and of those who have met: that has a key alone */
+    room later;      /* where whoever comes into the match is heard, by all its machines */
+    bool lasts;
+    comer comer[COMERS];
+    uint32_t news; /* the last that this machine told */
     uint8_t inbox[INBOX];
     char inbox_name[BROKER_SUBJECT], room_name[BROKER_SUBJECT];
     faz_line_keys keys; /* those of all its lines: each has another machine's at its other end */
@@ -180,6 +207,9 @@ void knock_close(faz_lobby *self);
 
 /* ---- hosting.c */
 
+/* Keys of who has left, or has its place: what they said may be said again by others. */
+void host_note_gone(faz_lobby *self, const uint8_t open[KEY]);
+bool host_is_gone(const faz_lobby *self, const uint8_t open[KEY]);
 /* What the host says about itself, sealed for those who have a room's key. */
 size_t host_offer(const faz_lobby *self, const room *in, uint8_t out[BROKER_MESSAGE]);
 
@@ -195,7 +225,20 @@ void join_door(faz_lobby *self, const door_answer *answer);
 void join_turn(faz_lobby *self);
 void join_close(faz_lobby *self);
 
+/* ---- late.c */
+
+/* The match is known, and whoever comes is heard from now on. */
+void late_begin(faz_lobby *self);
+/* False: it is nobody's who comes. */
+bool late_hear(faz_lobby *self, const broker_message *message);
+void late_turn(faz_lobby *self);
+bool late_let_in(faz_lobby *self, uint32_t who, bool yes);
+
 /* ---- mesh.c */
+
+bool mesh_has_line(const faz_lobby *self, uint32_t machine);
+/* There is somebody else in a place: the line to it is another one. */
+void mesh_replace(faz_lobby *self, uint32_t place, const member *who);
 
 /* The table is there: lines are opened with all others, as soon as all servers have addresses. */
 void mesh_open(faz_lobby *self);

@@ -153,10 +153,13 @@ static void note_seat(faz_lobby *self, const answer *came) {
     pair_words(&joins->host, lobby_tell(self, FAZ_LOBBY_JOINED, 0, came->name)->text);
 }
 
-/* Whether the table names this machine in its place, and the host by the key that it speaks by. */
+/* Whether the table names this machine in its place, and whoever answers by the key that it speaks by: the host, or in a match
+ * that runs any machine. */
 static bool is_ours(const faz_lobby *self, const table *came) {
-    return came->me != 0 && memcmp(came->member[came->me].open, self->keys.open, KEY) == 0
-        && memcmp(came->member[0].open, self->joining.host.theirs, KEY) == 0;
+    bool is_named = came->me != 0 && memcmp(came->member[0].open, self->joining.host.theirs, KEY) == 0;
+    for (uint32_t at = 0; at < came->machines && came->is_late; at++)
+        is_named = is_named || (at != came->me && memcmp(came->member[at].open, self->joining.host.theirs, KEY) == 0);
+    return is_named && memcmp(came->member[came->me].open, self->keys.open, KEY) == 0;
 }
 
 static void hear_answer(faz_lobby *self, const broker_message *message) {

@@ -1,5 +1,5 @@
-/* What machines of a lobby know: a code, which is a hash of its host's key, and what follows from it; and what two of them have alone. By
- * libsodium: Ed25519 for the host, X25519 and XChaCha20-Poly1305 for messages, BLAKE2b for what follows. */
+/* What machines of a lobby know: a code, which is a hash of its host's key, and what follows from it; and what two of them have
+ * alone. By libsodium: Ed25519 for the host, X25519 and XChaCha20-Poly1305 for messages, BLAKE2b for what follows. */
 #ifndef FAZ_LOBBY_KEYS_H
 #define FAZ_LOBBY_KEYS_H
 
@@ -68,8 +68,8 @@ bool pair_of(pair *self, const room *in, const uint8_t ours[KEY], const uint8_t 
 /* Signs that both see alike, and who stands between the two can't make alike: "Q7KM-2XPA". */
 void pair_words(const pair *self, char out[WORDS]);
 
-/* ---- Messages, sealed for all who have the code, or for the other one of a pair. `kind` is sealed with them. What is made is SEAL bytes
- * longer, and what is opened as much shorter. */
+/* ---- Messages, sealed for all who have the code, or for the other one of a pair. `kind` is sealed with them. What is made is
+ * SEAL bytes longer, and what is opened as much shorter. */
 
 void room_seal(const room *self, uint8_t *out, uint8_t kind, const uint8_t *bytes, size_t length);
 bool room_open(const room *self, uint8_t *out, uint8_t kind, const uint8_t *bytes, size_t length);

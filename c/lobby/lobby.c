@@ -65,6 +65,7 @@ faz_lobby_stage faz_lobby_stage_of(const faz_lobby *self) {
 static const char *take_settings(faz_lobby *self, const faz_lobby_settings *settings) {
     self->here = settings->here != 0 ? settings->here : 1;
     self->digest = settings->digest;
+    self->lasts = settings->lasts;
     name_clean(self->name, settings->name != NULL && *settings->name != 0 ? settings->name : "a player");
     if (self->here > FAZGROND_PLAYERS)
         return "there are more players at this machine than a match has";
@@ -109,12 +110,17 @@ static const char *take_match(faz_lobby *self, const faz_lobby_settings *setting
     return NULL;
 }
 
-/* A code that is a hash of the host's key. */
+/* A code that is a hash of the host's key: it is told once friends can be heard. */
 static void open_by_hash(faz_lobby *self) {
     uint8_t code[CODE_BYTES];
     code_of(code, self->hosting.open);
     enter(self, code);
     broker_hear(self->broker, 1, self->room_name);
+}
+
+static void tell_code(faz_lobby *self) {
+    uint8_t code[CODE_BYTES];
+    code_of(code, self->hosting.open);
     code_write(code, lobby_tell(self, FAZ_LOBBY_CODE, 0, self->name)->text);
 }
 
@@ -192,8 +198,11 @@ void faz_lobby_close(faz_lobby *self) {
 /* ---- a turn */
 
 static void hear(faz_lobby *self, const broker_message *message) {
-    if (!message->is_nobody && message->length > 0 && message->bytes[0] == SIGNAL)
+    bool is_of_mesh = !message->is_nobody && message->length > 0 && (message->bytes[0] == SIGNAL || message->bytes[0] == NEWS);
+    if (is_of_mesh)
         mesh_hear(self, message);
+    else if (late_hear(self, message))
+        return;
     else if (!message->is_nobody && message->length > 0 && message->bytes[0] == DOOR_ANSWER)
         asking_hear(self, message);
     else if (self->is_host && !message->is_nobody)
@@ -219,6 +228,8 @@ static void look_at_broker(faz_lobby *self) {
     }
     if (is_there)
         self->is_away_told = false;
+    if (is_there && !self->has_been_there && self->is_host && !self->hosting.has_short_code)
+        tell_code(self);
     self->has_been_there = self->has_been_there || is_there;
 }
 
@@ -250,9 +261,20 @@ void faz_lobby_turn(faz_lobby *self, uint32_t now) {
     else
         join_turn(self);
     mesh_turn(self);
+    late_turn(self);
 }
 
 /* ---- the match */
+
+/* What is the same at all, and another number for each who comes. */
+static uint64_t ticket_of(const table *from, uint32_t machine) {
+    uint8_t hash[16], number[8];
+    uint64_t ticket;
+    crypto_generichash(hash, sizeof hash, from->member[machine].open, KEY, from->key, KEY);
+    memcpy(number, hash, sizeof number);
+    memcpy(&ticket, number, sizeof ticket);
+    return ticket | 1;
+}
 
 bool faz_lobby_get_match(const faz_lobby *self, faz_lobby_match *match) {
     if (!self->is_known)
@@ -264,10 +286,14 @@ bool faz_lobby_get_match(const faz_lobby *self, faz_lobby_match *match) {
     memcpy(match->owners, self->table.owners, sizeof match->owners);
     match->number = self->table.number;
     match->digest = self->digest;
+    match->is_late = self->table.is_late;
+    if (self->table.lasts)
+        code_write(self->table.code, match->code);
     match->common_length = self->table.common_length;
     memcpy(match->common, self->table.common, self->table.common_length);
     for (uint32_t at = 0; at < match->machines; at++) {
         strcpy(match->names[at], self->table.member[at].name);
+        match->tickets[at] = ticket_of(&self->table, at);
         match->numbers[at] = self->other[at].line != NULL ? faz_line_number(self->other[at].line) : 0;
     }
     return true;

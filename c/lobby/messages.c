@@ -82,7 +82,8 @@ bool knock_read(knock *self, message_kind kind, const uint8_t *bytes, size_t len
 
 /* ---- what all who have the code can read */
 
-static size_t seal_for_all(const room *in, uint8_t out[BROKER_MESSAGE], message_kind kind, const uint8_t *inside, const cursor *end) {
+static size_t seal_for_all(const room *in, uint8_t out[BROKER_MESSAGE], message_kind kind, const uint8_t *inside,
+                           const cursor *end) {
     size_t length = (size_t)(end->at - inside);
     out[0] = (uint8_t)kind;
     room_seal(in, out + 1, (uint8_t)kind, inside, length);
@@ -174,6 +175,19 @@ bool ask_read(ask *self, const room *in, const pair *between, const uint8_t *byt
     return from.is_good && self->here >= 1 && self->here <= FAZGROND_PLAYERS;
 }
 
+static void put_member(cursor *to, const member *self) {
+    cursor_put(to, self->open, KEY);
+    cursor_put(to, self->inbox, INBOX);
+    cursor_put_text(to, self->name);
+}
+
+static void get_member(cursor *from, member *self) {
+    memset(self, 0, sizeof *self);
+    cursor_get(from, self->open, KEY);
+    cursor_get(from, self->inbox, INBOX);
+    get_name(from, self->name);
+}
+
 static void put_table(cursor *to, const table *self) {
     cursor_put_number(to, self->me, 1);
     cursor_put_number(to, self->machines, 1);
@@ -182,11 +196,12 @@ static void put_table(cursor *to, const table *self) {
         cursor_put_number(to, self->owners[at], 1);
     cursor_put_number(to, self->number, 8);
     cursor_put(to, self->key, KEY);
-    for (uint32_t at = 0; at < self->machines; at++) {
-        cursor_put(to, self->member[at].open, KEY);
-        cursor_put(to, self->member[at].inbox, INBOX);
-        cursor_put_text(to, self->member[at].name);
-    }
+    cursor_put_number(to, (uint64_t)self->lasts | (uint64_t)self->asks << 1 | (uint64_t)self->is_late << 2, 1);
+    cursor_put(to, self->code, CODE_BYTES);
+    cursor_put(to, self->host, KEY);
+    cursor_put(to, self->proof, PROOF);
+    for (uint32_t at = 0; at < self->machines; at++)
+        put_member(to, &self->member[at]);
     cursor_put_number(to, self->common_length, 2);
     cursor_put(to, self->common, self->common_length);
 }
@@ -209,12 +224,16 @@ static void get_table(cursor *from, table *self) {
         self->owners[at] = (uint32_t)cursor_get_number(from, 1);
     self->number = cursor_get_number(from, 8);
     cursor_get(from, self->key, KEY);
+    uint64_t flags = cursor_get_number(from, 1);
+    self->lasts = (flags & 1) != 0;
+    self->asks = (flags & 2) != 0;
+    self->is_late = (flags & 4) != 0;
+    cursor_get(from, self->code, CODE_BYTES);
+    cursor_get(from, self->host, KEY);
+    cursor_get(from, self->proof, PROOF);
     from->is_good = from->is_good && has_owners(self);
-    for (uint32_t at = 0; at < self->machines && from->is_good; at++) {
-        cursor_get(from, self->member[at].open, KEY);
-        cursor_get(from, self->member[at].inbox, INBOX);
-        get_name(from, self->member[at].name);
-    }
+    for (uint32_t at = 0; at < self->machines && from->is_good; at++)
+        get_member(from, &self->member[at]);
     self->common_length = cursor_get_number(from, 2);
     from->is_good = from->is_good && self->common_length <= FAZ_LOBBY_COMMON;
     cursor_get(from, self->common, from->is_good ? self->common_length : 0);
@@ -247,6 +266,32 @@ bool answer_read(answer *self, const pair *between, const uint8_t *bytes, size_t
     if (from.is_good && self->what == BEGINS)
         get_table(&from, &self->table);
     return from.is_good && self->what <= REFUSED;
+}
+
+/* ---- news of who comes */
+
+size_t news_write(uint32_t from, const news *self, const pair *between, uint8_t out[BROKER_MESSAGE]) {
+    uint8_t inside[BROKER_MESSAGE];
+    cursor to = {inside, sizeof inside - SEAL - SIGNAL_HEAD - 1, true};
+    cursor_put_number(&to, self->counter, 4);
+    cursor_put_number(&to, self->place, 1);
+    put_member(&to, &self->who);
+    size_t length = (size_t)(to.at - inside);
+    out[0] = NEWS;
+    out[1] = (uint8_t)from;
+    pair_seal(between, out + SIGNAL_HEAD, NEWS, inside, length);
+    return SIGNAL_HEAD + length + SEAL;
+}
+
+bool news_read(news *self, const pair *between, const uint8_t *bytes, size_t length) {
+    uint8_t inside[BROKER_MESSAGE];
+    bool is_good = length >= SIGNAL_HEAD + SEAL && length < BROKER_MESSAGE && bytes[0] == NEWS
+        && pair_open(between, inside, NEWS, bytes + SIGNAL_HEAD, length - SIGNAL_HEAD);
+    cursor from = {inside, is_good ? length - SIGNAL_HEAD - SEAL : 0, is_good};
+    self->counter = (uint32_t)cursor_get_number(&from, 4);
+    self->place = (uint32_t)cursor_get_number(&from, 1);
+    get_member(&from, &self->who);
+    return from.is_good;
 }
 
 /* ---- signals of lines */

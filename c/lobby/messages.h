@@ -1,5 +1,6 @@
-/* What machines of a lobby say to each other, as bytes. Who joins says hello, and the host offers the key by which it speaks; then who joins
- * asks to be let in, again and again, and is answered each time how it stands, at last with the table of the match. */
+/* What machines of a lobby say to each other, as bytes. Who joins says hello, and the host offers the key by which it speaks;
+ * then who joins asks to be let in, again and again, and is answered each time how it stands, at last with the table of the
+ * match. */
 #ifndef FAZ_LOBBY_MESSAGES_H
 #define FAZ_LOBBY_MESSAGES_H
 
@@ -15,7 +16,16 @@ enum {
 };
 
 /* The first byte of a message. */
-typedef enum message_kind { KNOCK = 'k', KNOCKED = 'n', HELLO = 'h', OFFER = 'o', ASK = 'a', ANSWER = 's', SIGNAL = 'g' } message_kind;
+typedef enum message_kind {
+    KNOCK = 'k',
+    KNOCKED = 'n',
+    HELLO = 'h',
+    OFFER = 'o',
+    ASK = 'a',
+    ANSWER = 's',
+    SIGNAL = 'g',
+    NEWS = 'w'
+} message_kind;
 
 /* With a short code who joins and the host get a key by it first, in two messages of each (pake.h). */
 typedef struct knock {
@@ -59,6 +69,9 @@ typedef struct table {
     uint32_t owners[FAZGROND_PLAYERS];
     uint64_t number;
     uint8_t key[KEY]; /* of all its machines */
+    bool lasts, asks, is_late;
+    uint8_t code[CODE_BYTES], host[KEY]; /* of who hosted it */
+    uint8_t proof[PROOF];                /* that this machine may answer who comes */
     member member[FAZGROND_MACHINES];
     size_t common_length;
     uint8_t common[FAZ_LOBBY_COMMON];
@@ -83,6 +96,14 @@ size_t hello_write(const hello *self, const room *in, uint8_t out[BROKER_MESSAGE
 size_t offer_write(const offer *self, const room *in, uint8_t out[BROKER_MESSAGE]);
 size_t ask_write(const ask *self, const room *in, const pair *between, uint8_t out[BROKER_MESSAGE]);
 size_t answer_write(const answer *self, const pair *between, uint8_t out[BROKER_MESSAGE]);
+/* Of a machine `from`: in a place there is somebody else. `counter` goes up. */
+typedef struct news {
+    uint32_t counter, place;
+    member who;
+} news;
+
+size_t news_write(uint32_t from, const news *self, const pair *between, uint8_t out[BROKER_MESSAGE]);
+bool news_read(news *self, const pair *between, const uint8_t *bytes, size_t length);
 size_t signal_write(uint32_t from, const uint8_t *bytes, size_t length, const pair *between, uint8_t out[BROKER_MESSAGE]);
 
 /* Each reads one that begins with its kind. False: nobody made such a message who may. */

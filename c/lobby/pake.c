@@ -62,8 +62,8 @@ static int copy(gnutls_datum_t *to, const gnutls_datum_t *from) {
     return 0;
 }
 
-static int on_name(gnutls_session_t session, const char *name, gnutls_datum_t *salt, gnutls_datum_t *verifier, gnutls_datum_t *generator,
-                   gnutls_datum_t *prime) {
+static int on_name(gnutls_session_t session, const char *name, gnutls_datum_t *salt, gnutls_datum_t *verifier,
+                   gnutls_datum_t *generator, gnutls_datum_t *prime) {
     const pake *self = gnutls_session_get_ptr(session);
     uint8_t bytes[SALT];
     gnutls_datum_t drawn = {bytes, sizeof bytes};

@@ -1,5 +1,5 @@
-/* Two who know the same short secret get a key that nobody else has, and who doesn't know it gets one guess at a time: SRP of RFC 5054, by
- * a handshake of GnuTLS whose bytes the caller carries. It has no socket, and never waits. */
+/* Two who know the same short secret get a key that nobody else has, and who doesn't know it gets one guess at a time: SRP of
+ * RFC 5054, by a handshake of GnuTLS whose bytes the caller carries. It has no socket, and never waits. */
 #ifndef FAZ_PAKE_H
 #define FAZ_PAKE_H
 

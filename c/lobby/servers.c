@@ -84,7 +84,8 @@ static void take_addresses(faz_lobby *self) {
         if (self->line.relays[at].address[0] != 0)
             self->line.relays[kept++] = self->line.relays[at];
     if ((self->servers.stun[0] != 0 && self->line.stun == NULL) || kept < self->line.relay_count)
-        strcpy(lobby_tell(self, FAZ_LOBBY_AWAY, FAZGROND_NO_MACHINE, "")->text, "a STUN server or relay has no address: its name isn't known");
+        strcpy(lobby_tell(self, FAZ_LOBBY_AWAY, FAZGROND_NO_MACHINE, "")->text,
+               "a STUN server or relay has no address: its name isn't known");
     self->line.relay_count = kept;
 }
 
@@ -107,8 +108,8 @@ void lobby_take_servers(faz_lobby *self, const door_answer *answer) {
     for (uint32_t at = 0; at < answer->relays; at++) {
         const door_server *from = &answer->relay[at];
         bool is_known = self->has_lines && strcmp(from->address, self->servers.relay[at]) == 0;
-        relays[at] = (faz_line_relay){is_known ? self->servers.relay_address[at] : from->address, from->port, answer->user, answer->password,
-                                      from->by_tcp};
+        const char *address = is_known ? self->servers.relay_address[at] : from->address;
+        relays[at] = (faz_line_relay){address, from->port, answer->user, answer->password, from->by_tcp};
     }
     if (self->has_lines) {
         faz_lobby_relays(self, relays, answer->relays);

@@ -62,8 +62,10 @@ const char *lobby_words_read(lobby_words *words, faz_lobby_settings *settings) {
     settings->name = words->name;
     settings->relay_only = words->relay_only;
     settings->asks = words->asks;
+    settings->lasts = words->lasts;
     settings->has_door = settings->short_code = words->by_door;
-    if (words->stun != NULL && (!copied(words->texts[0], words->stun) || !split(words->texts[0], &settings->stun, &settings->stun_port)))
+    if (words->stun != NULL
+        && (!copied(words->texts[0], words->stun) || !split(words->texts[0], &settings->stun, &settings->stun_port)))
         return "--stun has no ADDRESS:PORT";
     if (words->relay != NULL && !read_relay(words->relay, words->texts[1], false, settings))
         return "--relay has no USER:PASSWORD@ADDRESS:PORT";
@@ -87,6 +89,7 @@ void lobby_words_of(const faz_lobby_event *event, char *out, size_t room) {
     case FAZ_LOBBY_UP: snprintf(out, room, "the line to machine %u is up: %s", (unsigned)event->machine, text); break;
     case FAZ_LOBBY_SILENT: snprintf(out, room, "machine %u is silent: another way is looked for", (unsigned)event->machine); break;
     case FAZ_LOBBY_BLOCKED: snprintf(out, room, "no way to machine %u was found so far", (unsigned)event->machine); break;
+    case FAZ_LOBBY_COMES: snprintf(out, room, "%s comes as machine %u", name, (unsigned)event->machine); break;
     case FAZ_LOBBY_ENDED: snprintf(out, room, "%s", text); break;
     }
 }

@@ -16,6 +16,7 @@ typedef struct lobby_words {
     const char *name;      /* --name NAME */
     bool relay_only;       /* --relay-only */
     bool asks;             /* --ask */
+    bool lasts;            /* --rejoin, or what the program calls it */
     bool by_door;          /* --door: short codes, and relays if none are named */
     char texts[3][LOBBY_WORDS_ROOM]; /* what settings point at */
 } lobby_words;
@@ -23,7 +24,8 @@ typedef struct lobby_words {
 /* Settings of what was said, as long as `words` is there. Null, or what can't be read. */
 const char *lobby_words_read(lobby_words *words, faz_lobby_settings *settings);
 
-/* Lets in who waits for this player's answer, or not, if the player has written y or n at the terminal. Who still waits; 0: nobody. */
+/* Lets in who waits for this player's answer, or not, if the player has written y or n at the terminal. Who still waits; 0:
+ * nobody. */
 uint32_t lobby_words_let_in(faz_lobby *lobby, uint32_t who);
 
 /* An event in words; an empty text if a player needs none. */

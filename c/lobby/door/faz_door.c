@@ -22,7 +22,15 @@ static const char usage[] =
     "  --tries N            that an address has in a minute (20)\n";
 
 enum {
-    SIGNS = 32, PLATES = SIGNS * SIGNS * SIGNS, DRAWN = 64, ADDRESSES = 4096, MINUTE = 60, TEXT = 4096, HOST = 64, NAME = 24, WAIT = 1000
+    SIGNS = 32,
+    PLATES = SIGNS * SIGNS * SIGNS,
+    DRAWN = 64,
+    ADDRESSES = 4096,
+    MINUTE = 60,
+    TEXT = 4096,
+    HOST = 64,
+    NAME = 24,
+    WAIT = 1000
 };
 
 static const char signs[SIGNS + 1] = "0123456789ABCDEFGHJKMNPQRSTVWXYZ";
@@ -221,7 +229,8 @@ static void answer(natsConnection *broker, natsMsg *message) {
     uint8_t out[DOOR_MESSAGE];
     char from[HOST];
     const char *reply = natsMsg_GetReply(message);
-    if (reply == NULL || !door_request_read(&asked, (const uint8_t *)natsMsg_GetData(message), (size_t)natsMsg_GetDataLength(message)))
+    const uint8_t *bytes = (const uint8_t *)natsMsg_GetData(message);
+    if (reply == NULL || !door_request_read(&asked, bytes, (size_t)natsMsg_GetDataLength(message)))
         return;
     int number = asked.kind == DOOR_HOSTS ? plate_of(&asked) : -1;
     bool is_longer = number >= 0 && is_taken(number);

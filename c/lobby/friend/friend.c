@@ -88,7 +88,8 @@ static bool open_friend(uint32_t machine) {
     return true;
 }
 
-/* The next datagram that the game has sent to a friend, whose answers go to where it came from; its length, below 0 if there is none. */
+/* The next datagram that the game has sent to a friend, whose answers go to where it came from; its length, below 0 if there is
+ * none. */
 static ssize_t next_of_game(friend *it, uint8_t *bytes, size_t room) {
     struct sockaddr_in from;
     socklen_t size = sizeof from;

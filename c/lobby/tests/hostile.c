@@ -1,5 +1,6 @@
-/* Strangers on the broker, and friends who lie: hostile URL [short]. Lobbies of one process, and beside them somebody who hears all that is
- * said on the broker, says it again, changes it, and says what it likes. With `short` codes are short, and there is a door. */
+/* Strangers on the broker, and friends who lie: hostile URL [short]. Lobbies of one process, and beside them somebody who hears
+ * all that is said on the broker, says it again, changes it, and says what it likes. With `short` codes are short, and there is
+ * a door. */
 #define _POSIX_C_SOURCE 200809L
 
 #include "../inside.h"
@@ -11,7 +12,7 @@
 #include <string.h>
 #include <time.h>
 
-enum { LOBBIES = 4, KEPT = 4096, WHATS = FAZ_LOBBY_ENDED + 1 };
+enum { LOBBIES = 4, KEPT = 4096, WHATS = FAZ_LOBBY_COMES + 1 };
 
 static struct {
     const char *url;
@@ -25,6 +26,7 @@ static struct {
     natsMsg *kept[KEPT];
     size_t count;
     int failed;
+    bool lasts; /* matches do */
 } self;
 
 static void check(bool is_so, const char *what) {
@@ -78,7 +80,7 @@ static bool is_told(int at, faz_lobby_what what, unsigned times) {
 
 static void open_host(uint32_t players, bool asks) {
     const char *why = NULL;
-    faz_lobby_settings settings = {.broker = self.url, .name = "Ann", .digest = 7, .players = players, .asks = asks};
+    faz_lobby_settings settings = {.broker = self.url, .name = "Ann", .digest = 7, .players = players, .asks = asks, .lasts = self.lasts};
     memset(self.told, 0, sizeof self.told);
     self.lobby[0] = faz_lobby_host(&settings, &why);
     check(self.lobby[0] != NULL && comes_to(0, FAZ_LOBBY_MEETING), "a host");
@@ -86,7 +88,7 @@ static void open_host(uint32_t players, bool asks) {
 
 static void open_friend(int at) {
     const char *why = NULL;
-    faz_lobby_settings settings = {.broker = self.url, .name = "Bob", .digest = 7};
+    faz_lobby_settings settings = {.broker = self.url, .name = "Bob", .digest = 7, .lasts = self.lasts};
     self.lobby[at] = faz_lobby_join(&settings, self.code, &why);
     check(self.lobby[at] != NULL, "a friend");
 }
@@ -399,6 +401,48 @@ static void test_host_leaves(void) {
     forget();
 }
 
+/* A machine of the match says that another one, which is there, is somebody else; that a place is another's which isn't there;
+ * and it says so in a third one's name. Nobody believes it. And who has the code gets no place of those who are there. */
+static void test_false_news(void) {
+    uint8_t message[BROKER_MESSAGE], secret[KEY];
+    news lie = {.counter = 1, .who = {.name = "liar"}};
+    self.lasts = true;
+    open_host(3, false);
+    open_friend(1);
+    check(is_told(1, FAZ_LOBBY_JOINED, 1), "a friend is in");
+    open_friend(2);
+    for (int at = 0; at < 3; at++)
+        check(comes_to(at, FAZ_LOBBY_READY), "the match begins");
+    crypto_kx_keypair(lie.who.open, secret);
+    for (lie.place = 0; lie.place < 9; lie.place++)
+        for (uint32_t from = 0; from < 4; from++) {
+            size_t length = news_write(from, &lie, &self.lobby[1]->other[0].pair, message);
+            say(self.lobby[0]->inbox_name, NULL, message, length);
+            say(self.lobby[2]->inbox_name, NULL, message, length);
+        }
+    run(200);
+    forget();
+    open_friend(3);
+    run(1500);
+    for (int at = 0; at < 3; at++)
+        check(self.told[at][FAZ_LOBBY_COMES] == 0 && self.told[at][FAZ_LOBBY_SILENT] == 0, "nobody comes in a place that isn't free");
+    check(faz_lobby_stage_of(self.lobby[3]) == FAZ_LOBBY_MEETING, "and who would come waits");
+    hear();
+    close_one(3);
+    faz_lobby *stopped = self.lobby[2];
+    self.lobby[2] = NULL;
+    run(1600);
+    say_again(0, self.count);
+    run(300);
+    check(self.told[0][FAZ_LOBBY_COMES] == 0 && self.told[1][FAZ_LOBBY_COMES] == 0, "who asked before doesn't come by what is said again");
+    open_friend(3);
+    check(comes_to(3, FAZ_LOBBY_READY) && self.told[0][FAZ_LOBBY_COMES] == 1 && self.told[1][FAZ_LOBBY_COMES] == 1, "a friend comes");
+    self.lasts = false;
+    faz_lobby_close(stopped);
+    close_all();
+    forget();
+}
+
 /* Settings that are no good are refused in words, and nothing is opened. */
 static void test_settings(void) {
     const char *why = NULL;
@@ -568,7 +612,8 @@ int main(int count, char **words) {
     static const test tests[] = {
         {"settings", test_settings}, {"stranger", test_stranger}, {"hidden", test_hidden}, {"elsewhere", test_elsewhere},
         {"false host", test_false_host}, {"ghosts", test_ghosts}, {"silence", test_silence}, {"crowd", test_crowd},
-        {"refusals", test_refusals}, {"host leaves", test_host_leaves}};
+        {"refusals", test_refusals}, {"host leaves", test_host_leaves},
+        {"false news", test_false_news}};
     static const test shorts[] = {
         {"wrong tries", test_wrong_tries}, {"burnt", test_burnt}, {"knocks", test_knocks}, {"no plate", test_no_plate}};
     bool are_short = count == 3 && strcmp(words[2], "short") == 0;

@@ -1,10 +1,11 @@
 /* One machine of a lobby: meet host PLAYERS [OPTION..] | meet join CODE [OPTION..]
  *
- * It tells each event, meets the others, and then sends each of them datagrams with their number, 60 a second. What was agreed on and what
- * came is told at the end.
+ * It tells each event, meets the others, and then sends each of them datagrams with their number, 60 a second. What was agreed
+ * on and what came is told at the end.
  *
  *     --broker URL --trusted FILE --stun ADDRESS:PORT --relay USER:PASSWORD@ADDRESS:PORT --tcp-relay the same --relay-only, as words.h
  *     --name NAME        --digest N      --here N      --common TEXT
+ *     --lasts            whoever stops can come back
  *     --door             codes are short, and relays are the door's
  *     --asks yes|no      the host's player lets all in, or nobody
  *     --begin SECONDS    the host begins with those who are there after so many seconds
@@ -55,7 +56,7 @@ static long millis(void) {
     return (long)((micros() - self.begun) / 1000);
 }
 
-static const char *const WHATS[] = {"code", "away", "asks", "joined", "left", "full", "up", "silent", "blocked", "ended"};
+static const char *const WHATS[] = {"code", "away", "asks", "joined", "left", "full", "up", "silent", "blocked", "ended", "comes"};
 static const char *const WHYS[] = {"-", "no-such-code", "no-seat", "other-game", "not-let-in", "host-left", "other-library", "system",
                                    "wrong-code", "too-many"};
 
@@ -147,13 +148,14 @@ static void turn(void) {
 
 static void say_result(void) {
     const faz_lobby_match *match = &self.match;
+    faz_lobby_get_match(self.lobby, &self.match);
     printf("match me %u machines %u players %u owners", match->me, match->machines, match->players);
     for (uint32_t player = 0; player < match->players; player++)
         printf(" %u", match->owners[player]);
     printf(" number %016" PRIx64 " common [%.*s] names", match->number, (int)match->common_length, (const char *)match->common);
     for (uint32_t at = 0; at < match->machines; at++)
-        printf(" [%s]", match->names[at]);
-    printf("\n");
+        printf(" [%s] %016" PRIx64, match->names[at], match->tickets[at]);
+    printf("\nlate %d, back by [%s]\n", match->is_late, match->code);
     for (uint32_t at = 0; at < match->machines; at++) {
         faz_line_state state;
         if (faz_lobby_look(self.lobby, at, &state))
@@ -201,6 +203,9 @@ static int read_option(char **at) {
         to->common_length = strlen(text);
     } else if (read_text(at, "--asks", &self.asks)) {
         words->asks = true;
+    } else if (strcmp(at[0], "--lasts") == 0) {
+        words->lasts = true;
+        return 1;
     } else if (strcmp(at[0], "--door") == 0) {
         words->by_door = true;
         return 1;
