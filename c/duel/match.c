@@ -4,6 +4,7 @@
 #include "casting.h"
 #include "clock.h"
 #include "helpers.h"
+#include "online.h"
 #include "options.h"
 #include "state.h"
 #include "window.h"
@@ -17,21 +18,28 @@
 static const char usage[] =
     "duel [OPTIONS] PORT PLAYER PLAYER [PLAYER [PLAYER]] [viewer:ADDRESS ..]    a duel of ships for two to four\n"
     "duel [OPTIONS] --watch PLAYERS PORT ADDRESS    watches one, at a machine that has this one as a viewer\n"
+    "duel [OPTIONS] --host PLAYERS    waits for friends over the internet, who join by the code that it prints\n"
+    "duel [OPTIONS] --join CODE       joins one\n"
     "  PLAYER        local, or the address of a machine, as 10.0.0.7:7001; the same order at all machines\n"
     "  --bot SEED    plays by itself (SEED is 1 or more)\n"
     "  --headless    no window; ships stay where they are without --bot\n"
     "  --frames N    ends once frame N is settled, and prints its state\n"
     "  --delay N     local inputs count N frames later (1)\n"
-    "  --timeout MS  a machine that is silent so long is gone (5000)\n"
+    "  --timeout MS  a machine that is silent so long is gone (5000, over the internet 10000)\n"
     "  --match N     the number that the machines of this match know\n"
     "  --lag MS --loss PERCENT --junk PERCENT    makes the line worse for what this machine sends\n"
     "  --speed N     a clock that runs N times as fast\n"
     "  --synctest N  no network: all players are local, and each N frames are played twice\n"
     "  --helpers N   so many threads play what may come ahead, up to 8\n"
     "  --rejoin      who stops can come back, if all machines say so: begin it again with the same words\n"
-    "  --cast MATCH --broker URL    publishes the match with this name, on a broker (nats://127.0.0.1:4222)\n";
+    "  --cast MATCH --broker URL    publishes the match with this name, on a broker (nats://127.0.0.1:4222)\n"
+    "over the internet:\n"
+    "  --broker URL  where friends meet (nats://127.0.0.1:4222)      --trusted FILE  certificates by which it is believed\n"
+    "  --stun ADDRESS[:PORT]  --relay USER:PASSWORD@ADDRESS[:PORT]  --tcp-relay the same, by TCP  --relay-only\n"
+    "  --name NAME   as friends see it                               --ask           who joins has to be let in\n"
+    "  --door        the broker has a door: codes are short, who joins has to be let in, and relays are the door's\n";
 
-enum { TURN = 16667, PAST_LAST = 32, LINES = 6, MOST_BEHIND = 6, CATCH_UP = 8 };
+enum { TURN = 16667, PAST_LAST = 32, LINES = 6, MOST_BEHIND = 6, CATCH_UP = 8, TIMEOUT = 5000, TIMEOUT_ONLINE = 10000 };
 
 /* All that there is: GGPO's callbacks are told nothing but what they are to do. */
 static struct {
@@ -50,7 +58,8 @@ static struct {
     long frames, lag, loss, junk, speed, delay, timeout, sync_frames, bot, match, watch, helpers;
     bool is_headless, can_rejoin;
     casting cast;
-} self = { .speed = 1, .delay = 1, .timeout = 5000, .cast = { .broker = "nats://127.0.0.1:4222", .rate = 60 } };
+    online online;
+} self = { .speed = 1, .delay = 1, .timeout = -1, .cast = { .broker = "nats://127.0.0.1:4222", .rate = 60 } };
 
 static void note_last(void) {
     if (self.frames > 0 && self.now.frame == self.frames)
@@ -281,7 +290,13 @@ static const option options[] = {
     { "--timeout", &self.timeout, NULL, NULL }, { "--synctest", &self.sync_frames, NULL, NULL },
     { "--watch", &self.watch, NULL, NULL },     { "--helpers", &self.helpers, NULL, NULL },
     { "--cast", NULL, &self.cast.match, NULL }, { "--broker", NULL, &self.cast.broker, NULL },
-    { "--headless", NULL, NULL, &self.is_headless }, { "--rejoin", NULL, NULL, &self.can_rejoin }, { NULL, NULL, NULL, NULL },
+    { "--headless", NULL, NULL, &self.is_headless }, { "--rejoin", NULL, NULL, &self.can_rejoin },
+    { "--host", &self.online.host, NULL, NULL },     { "--join", NULL, &self.online.code, NULL },
+    { "--trusted", NULL, &self.online.trusted, NULL }, { "--stun", NULL, &self.online.stun, NULL },
+    { "--relay", NULL, &self.online.relay, NULL },   { "--tcp-relay", NULL, &self.online.tcp_relay, NULL },
+    { "--name", NULL, &self.online.name, NULL },     { "--relay-only", NULL, NULL, &self.online.relay_only },
+    { "--ask", NULL, NULL, &self.online.asks },      { "--door", NULL, NULL, &self.online.by_door },
+    { NULL, NULL, NULL, NULL },
 };
 
 static bool is_viewer(const char *word) { return strncmp(word, "viewer:", 7) == 0; }
@@ -296,23 +311,38 @@ static bool read_address(const char *word, GGPOPlayer *player) {
     return true;
 }
 
+static bool add(GGPOPlayer *player) {
+    GGPOPlayerHandle handle;
+    if (!GGPO_SUCCEEDED(ggpo_add_player(self.session, player, &handle)))
+        return false;
+    if (player->type == GGPO_PLAYERTYPE_LOCAL) {
+        self.bots[self.locals] = duel_bot_of(self.bot, player->player_num);
+        self.local[self.locals++] = handle;
+        ggpo_set_frame_delay(self.session, handle, (int)self.delay);
+    } else if (player->type == GGPO_PLAYERTYPE_SPECTATOR)
+        self.viewer[self.viewers++] = handle;
+    return true;
+}
+
 static bool add_player(const char *word, int number) {
     GGPOPlayer player = { .size = sizeof player, .type = GGPO_PLAYERTYPE_LOCAL, .player_num = number };
-    GGPOPlayerHandle handle;
     if (strcmp(word, "local") != 0) {
         player.type = is_viewer(word) ? GGPO_PLAYERTYPE_SPECTATOR : GGPO_PLAYERTYPE_REMOTE;
         if (!read_address(is_viewer(word) ? word + 7 : word, &player))
             return false;
     }
-    if (!GGPO_SUCCEEDED(ggpo_add_player(self.session, &player, &handle)))
-        return false;
-    if (player.type == GGPO_PLAYERTYPE_LOCAL) {
-        self.bots[self.locals] = duel_bot_of(self.bot, number);
-        self.local[self.locals++] = handle;
-        ggpo_set_frame_delay(self.session, handle, (int)self.delay);
-    } else if (player.type == GGPO_PLAYERTYPE_SPECTATOR)
-        self.viewer[self.viewers++] = handle;
-    return true;
+    return add(&player);
+}
+
+/* All players of a match whose machines have met by a code. */
+static bool add_met(void) {
+    bool is_ready = online_take(self.session);
+    for (int number = 1; number <= self.players && is_ready; number++) {
+        GGPOPlayer player = { .size = sizeof player, .player_num = number };
+        online_player(&self.online, number, &player);
+        is_ready = add(&player);
+    }
+    return is_ready && (self.can_rejoin || online_seal(self.session));
 }
 
 static GGPOErrorCode start(unsigned short port, const char *host_word) {
@@ -331,7 +361,8 @@ static GGPOErrorCode start(unsigned short port, const char *host_word) {
 }
 
 static bool set_up(void) {
-    ggpo_set_disconnect_timeout(self.session, (int)self.timeout);
+    bool is_online = self.online.players > 0;
+    ggpo_set_disconnect_timeout(self.session, self.timeout >= 0 ? (int)self.timeout : is_online ? TIMEOUT_ONLINE : TIMEOUT);
     if (self.match > 0)
         fazggpo_set_match(self.session, (uint64_t)self.match);
     if (self.can_rejoin && !GGPO_SUCCEEDED(fazggpo_rejoin(self.session)))
@@ -350,11 +381,49 @@ static bool start_casting(int port) {
     return casting_open(&self.cast, &self.now.field);
 }
 
+/* Plays with the session, whose players are added, and gives all back. */
+static int run(bool is_ready, int port) {
+    int status = 2;
+    if (!is_ready || self.locals == 0)
+        fail(is_ready ? "no player is local" : ggpo_last_error(self.session));
+    else if (!self.is_headless && !window_open(self.local[0]))
+        fail("no window can be opened: --headless plays without");
+    else if (!helpers_begin(self.session, self.helpers))
+        fail("no helpers for this");
+    else if (start_casting(port))
+        status = play();
+    helpers_end(self.session);
+    ggpo_close_session(self.session);
+    if (status != 2 && !casting_close(self.is_over ? "the match can't go on" : "the match was closed"))
+        status = 1;
+    if (!self.is_headless)
+        window_close();
+    return status;
+}
+
+/* With friends who meet by a code. */
+static int run_online(void) {
+    int status = 2;
+    self.online.broker = self.cast.broker;
+    self.online.lasts = self.can_rejoin;
+    if (online_meet(&self.online)) {
+        self.players = self.online.players;
+        duel_open(&self.now.field, (uint32_t)self.players);
+        status = GGPO_SUCCEEDED(start(0, NULL)) ? run(set_up() && add_met(), 0) : fail(ggpo_last_error(NULL));
+    }
+    online_close();
+    return status;
+}
+
 int main(int count, char **words) {
     int at = read_options(words, options);
+    bool is_online = self.online.host > 0 || self.online.code != NULL;
     long port;
     if (fazgrond_version() >> 8 != FAZGROND_VERSION >> 8) /* the same major and minor number */
         return fail("this was compiled for another version of the library");
+    if (at > 0 && is_online)
+        return words[at] != NULL || self.online.host > DUEL_SHIPS ? fail("two to four players were expected, and no addresses")
+                                                                 : run_online();
     if (at == 0 || !read_number(words[at], &port) || port > 65535)
         return fail("the options or the port can't be read");
     self.players = (int)self.watch;
@@ -369,20 +438,5 @@ int main(int count, char **words) {
         is_ready = add_player(words[at + player], player);
     if (self.watch > 0) /* its window stands beside those of the players, and no ship is its own */
         self.local[self.locals++] = self.players + 1;
-    int status = 2;
-    if (!is_ready || self.locals == 0)
-        fail(is_ready ? "no player is local" : ggpo_last_error(self.session));
-    else if (!self.is_headless && !window_open(self.local[0]))
-        fail("no window can be opened: --headless plays without");
-    else if (!helpers_begin(self.session, self.helpers))
-        fail("no helpers for this");
-    else if (start_casting((int)port))
-        status = play();
-    helpers_end(self.session);
-    ggpo_close_session(self.session);
-    if (status != 2 && !casting_close(self.is_over ? "the match can't go on" : "the match was closed"))
-        status = 1;
-    if (!self.is_headless)
-        window_close();
-    return status;
+    return run(is_ready, (int)port);
 }

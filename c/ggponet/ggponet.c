@@ -214,6 +214,7 @@ static void tell_events(GGPOSession *session) {
 
 static GGPOErrorCode idle_once(GGPOSession *session) {
     GGPOErrorCode code = hear(session);
+    session->is_turn_begun = false;
     if (code == GGPO_OK && !session->is_spectating)
         code = ggponet_come(session);
     if (code == GGPO_OK && !session->is_spectating)
@@ -320,10 +321,11 @@ static GGPOErrorCode add_to_match(GGPOSession *session, GGPOPlayerHandle handle,
     code = hear(session);
     if (code == GGPO_OK)
         code = ggponet_come(session);
-    if (code == GGPO_OK)
+    if (code == GGPO_OK && !session->is_turn_begun)
         code = ggponet_go_on(session);
     if (code == GGPO_OK)
         code = ggponet_give_words(session, handle, words);
+    session->is_turn_begun |= code == GGPO_OK;
     if (code == GGPO_OK)
         send_if_due(session);
     return code;
@@ -376,7 +378,7 @@ GGPOErrorCode ggpo_advance_frame(GGPOSession *session) {
     if (!session->is_row_given)
         return ggponet_refuse(session, GGPO_ERRORCODE_INVALID_REQUEST,
                               "ggpo_synchronize_input has to come before each frame");
-    session->is_row_given = false;
+    session->is_row_given = session->is_turn_begun = false;
     if (session->sync_frames != 0)
         return ggponet_advance_sync_test(session);
     if (!session->is_spectating)

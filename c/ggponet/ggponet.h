@@ -364,6 +364,45 @@ GGPO_API bool __cdecl fazggpo_run_job(FazggpoJob *job, const FazggpoHelper *help
 
 GGPO_API GGPOErrorCode __cdecl fazggpo_get_guesses(GGPOSession *session, FazggpoGuesses *guesses);
 
+/* ---- A wire of the game's own in the place of the UDP socket: lines through routers (c/line, docs/ONLINE.md), a relay, a test's memory.
+ * All goes over it that goes over the socket else: what players, spectators and those who come back send.
+ *
+ *     FazggpoWire wire = { lines, send, receive };
+ *     ggpo_start_session(&session, &cb, "game", 2, sizeof(input), 0);   // port 0: some free one, which the next call closes
+ *     fazggpo_set_wire(session, &wire);
+ *     .. ggpo_add_player as ever: addresses are names then, and need not be any that there are
+ *     fazggpo_set_number(session, 2, faz_line_number(line));
+ *
+ * Machines have the names that events have for them: 1 to 4 is a player, for the machine where that one sits; 1000 and more a
+ * spectator; and to a spectator 0 is its host. */
+
+/* What carries datagrams, each with `wire`, on the thread that calls the session: within ggpo_idle, ggpo_add_local_input,
+ * ggpo_disconnect_player and ggpo_close_session. Neither waits, and neither calls the session.
+ *
+ * send: a datagram of 1,200 bytes at most goes to a machine, which is named by its first player. It may be lost, and come late, twice
+ * and in any order, as on a network.
+ * receive: the next datagram that came, of `room` bytes at most, how long it is, and of which machine it came, named by any of its
+ * players. False: there is none now. What comes of whom is for the wire to know, as addresses aren't looked at: c/line knows it. What it
+ * names as of nobody is dropped. */
+typedef struct FazggpoWire {
+    void *wire;
+    void(__cdecl *send)(void *wire, GGPOPlayerHandle to, const unsigned char *bytes, int len);
+    bool(__cdecl *receive)(void *wire, GGPOPlayerHandle *from, unsigned char *bytes, int room, int *len);
+} FazggpoWire;
+
+/* Takes a wire, which is copied, and closes the session's port. Before the match opens. ggpo_idle looks once a millisecond then
+ * whether something came, and waits else. It is refused with GGPO_ERRORCODE_INVALID_REQUEST if a function is missing, and with
+ * GGPO_ERRORCODE_UNSUPPORTED for a sync test, which sends nothing. */
+GGPO_API GGPOErrorCode __cdecl fazggpo_set_wire(GGPOSession *session, const FazggpoWire *wire);
+
+/* A number of 64 random bits that this machine and another one know, and nobody else, as faz_line_number of c/line: with it their
+ * packets are sealed, in the place of those of fazggpo_set_match and fazggpo_set_spectators. Both say it. So neither can make packets
+ * in the name of a third machine, nor to one. `other` is a player or spectator that was added, or 0 at a spectator. Of players who sit
+ * at one machine one says it for all. Before the match opens; with a wire or without. It is refused with
+ * GGPO_ERRORCODE_INVALID_PLAYER_HANDLE for whom the session hasn't got or who is local, and with GGPO_ERRORCODE_UNSUPPORTED in a match
+ * into which players come back: there all machines know one number, that of fazggpo_set_match. */
+GGPO_API GGPOErrorCode __cdecl fazggpo_set_number(GGPOSession *session, GGPOPlayerHandle other, uint64_t number);
+
 /* ---- For tests. */
 
 /* A bad line. What this session sends goes out so much later, and so many in a hundred are lost. Of so many in a

@@ -71,9 +71,16 @@ typedef struct delayed {
     uint8_t bytes[FAZGROND_DATAGRAM];
 } delayed;
 
+/* The number of a pair, if the game has said one. */
+typedef struct pair_number {
+    bool is_said;
+    uint64_t number;
+} pair_number;
+
 /* A machine of the match, or the other end of a spectator's line. */
 typedef struct machine {
     struct sockaddr_in address;
+    pair_number pair;
     int handle;    /* its first player's, or a spectator's */
     bool is_known; /* it was heard of, which the game was told */
     uint64_t second;
@@ -92,6 +99,7 @@ typedef struct player {
     bool is_there;
     GGPOPlayerType type;
     struct sockaddr_in address;
+    pair_number pair; /* with the machine of this player */
     int machine;
     int delay;
     int words_gone; /* how many of its words have left */
@@ -154,13 +162,15 @@ struct GGPOSession {
 
     /* The row that the game is given. */
     fazgrond_row row;
+    bool is_turn_begun; /* a local player's input was taken since ggpo_idle or a frame: others' are for the same frame */
     bool is_row_given; /* at this frame, and the game hasn't gone on from it */
     bool in_rollback;
     bool is_advanced;
 
-    /* Socket, clock and line. */
+    /* Socket or wire, clock and line. */
     socket_t socket;
     bool has_port;
+    FazggpoWire wire; /* its functions are null if there is none */
     uint64_t start;
     uint32_t speed;
     uint64_t send_due;
@@ -221,6 +231,17 @@ void ggponet_send_now(GGPOSession *session, int to, const uint8_t *bytes, size_t
 long ggponet_next_datagram(GGPOSession *session, struct sockaddr_in *from, uint8_t *bytes, size_t room);
 /* Waits so many microseconds of the session, or until something came for an open match. */
 void ggponet_wait_micros(GGPOSession *session, uint64_t time);
+
+/* ---- wire.c */
+
+bool ggponet_has_wire(const GGPOSession *session);
+void ggponet_send_by_wire(GGPOSession *session, int to, const uint8_t *bytes, size_t length);
+/* As ggponet_next_datagram: the address is that of the machine that the wire names. */
+long ggponet_next_of_wire(GGPOSession *session, struct sockaddr_in *from, uint8_t *bytes, size_t room);
+/* Whether the game has said a number for some pair. */
+bool ggponet_has_pairs(const GGPOSession *session);
+/* The machines have the numbers that were said for their players. */
+GGPOErrorCode ggponet_take_pairs(GGPOSession *session);
 
 /* ---- line.c */
 

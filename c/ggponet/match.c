@@ -57,7 +57,8 @@ static fazgrond_match the_match(const GGPOSession *session) {
     for (int at = 0; at < ggponet_all_words(session); at++)
         match.owners[at] = (uint32_t)session->player[at / session->words].machine;
     match.words = (uint32_t)session->words;
-    fazgrond_one_number(&match, session->number);
+    for (int at = 0; at < FAZGROND_MACHINES; at++)
+        match.numbers[at] = session->machine[at].pair.is_said ? session->machine[at].pair.number : session->number;
     match.digest = session->digest;
     match.silent_after = session->silent_after;
     match.notify_after = session->notify_after;
@@ -156,7 +157,9 @@ GGPOErrorCode ggponet_open_match(GGPOSession *session) {
         return ggponet_refuse(session, GGPO_ERRORCODE_INVALID_REQUEST, "no player is local");
     if (session->machines < 2)
         return ggponet_refuse(session, GGPO_ERRORCODE_UNSUPPORTED, "all players are local, so that there is no match");
-    GGPOErrorCode code = open_both(session);
+    GGPOErrorCode code = ggponet_take_pairs(session);
+    if (code == GGPO_OK)
+        code = open_both(session);
     if (code == GGPO_OK)
         code = ggponet_open_lines(session);
     session->is_open = code == GGPO_OK;

@@ -13,6 +13,8 @@ GGPOErrorCode fazggpo_rejoin(GGPOSession *session) {
         return ggponet_is_too_late(session, "that players come back");
     if (session->guesses != NULL || session->spectators > 0)
         return ggponet_refuse(session, GGPO_ERRORCODE_UNSUPPORTED, "players come back into no match with guesses or spectators");
+    if (ggponet_has_pairs(session))
+        return ggponet_refuse(session, GGPO_ERRORCODE_UNSUPPORTED, "a match into which players come back has one number for all pairs");
     session->can_rejoin = true;
     return GGPO_OK;
 }

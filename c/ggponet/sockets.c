@@ -21,6 +21,9 @@ typedef struct pollfd pollfd_t;
 #define poll_sockets poll
 #endif
 
+/* Microseconds: a wait for the socket, which is by milliseconds, and between two looks at a wire. */
+enum { SHORTEST = 1000, LONGEST = 1000000, LOOK_EVERY = 1000 };
+
 static bool begin_sockets(void) {
 #ifdef _WIN32
     WSADATA data;
@@ -83,6 +86,10 @@ void ggponet_close_port(GGPOSession *session) {
 }
 
 void ggponet_send_now(GGPOSession *session, int to, const uint8_t *bytes, size_t length) {
+    if (ggponet_has_wire(session)) {
+        ggponet_send_by_wire(session, to, bytes, length);
+        return;
+    }
     const struct sockaddr_in *address = &session->machine[to].address;
     /* What can't be sent is lost, as it may be anyway. */
     sendto(session->socket, (const char *)bytes, length, 0, (const struct sockaddr *)address, sizeof *address);
@@ -90,16 +97,19 @@ void ggponet_send_now(GGPOSession *session, int to, const uint8_t *bytes, size_t
 
 long ggponet_next_datagram(GGPOSession *session, struct sockaddr_in *from, uint8_t *bytes, size_t room) {
     socklen_t size = sizeof *from;
+    if (ggponet_has_wire(session))
+        return ggponet_next_of_wire(session, from, bytes, room);
     memset(from, 0, sizeof *from);
     return (long)recvfrom(session->socket, (char *)bytes, room, 0, (struct sockaddr *)from, &size);
 }
 
 void ggponet_wait_micros(GGPOSession *session, uint64_t time) {
     pollfd_t one;
+    uint64_t most = ggponet_has_wire(session) ? LOOK_EVERY : LONGEST;
     time /= session->speed;
-    if (time > 1000000)
-        time = 1000000;
-    if (time < 1000 || !session->is_open) {
+    if (time > most)
+        time = most;
+    if (time < SHORTEST || !session->is_open || ggponet_has_wire(session)) {
         ggponet_sleep_micros(time);
         return;
     }

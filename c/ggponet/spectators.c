@@ -30,16 +30,20 @@ GGPOErrorCode ggponet_add_spectator(GGPOSession *session, const GGPOPlayer *adde
     return GGPO_OK;
 }
 
-/* A spectator's line: both ends have to have the same settings but for the draw, so they are made of what both know. Who owns
- * which player, which a spectator isn't told, is the same for all matches of so many players. The number is another one for each
- * port. */
-static fazgrond_line_settings line_settings(const GGPOSession *session, unsigned short port) {
-    fazgrond_line_settings settings;
+/* The number of a spectator's line: another one for each port, unless the game has said which. */
+static uint64_t line_number(const GGPOSession *session, const pair_number *pair, unsigned short port) {
     char text[32];
     int count = snprintf(text, sizeof text, " spectator %d", (int)port);
+    return pair->is_said ? pair->number
+                         : ggponet_hash_bytes(session->has_line_number ? session->line_number : session->number, text, (size_t)count);
+}
+
+/* A spectator's line: both ends have to have the same settings but for the draw, so they are made of what both know. Who owns
+ * which player, which a spectator isn't told, is the same for all matches of so many players. */
+static fazgrond_line_settings line_settings(const GGPOSession *session, const pair_number *pair, unsigned short port) {
+    fazgrond_line_settings settings;
     memset(&settings, 0, sizeof settings);
-    settings.number =
-        ggponet_hash_bytes(session->has_line_number ? session->line_number : session->number, text, (size_t)count);
+    settings.number = line_number(session, pair, port);
     settings.digest = session->digest;
     settings.silent_after = session->silent_after;
     settings.machines = 2;
@@ -50,7 +54,8 @@ static fazgrond_line_settings line_settings(const GGPOSession *session, unsigned
 
 GGPOErrorCode ggponet_open_lines(GGPOSession *session) {
     for (int at = 0; at < session->spectators; at++) {
-        fazgrond_line_settings settings = line_settings(session, ntohs(session->machine[MACHINES + at].address.sin_port));
+        const machine *other = &session->machine[MACHINES + at];
+        fazgrond_line_settings settings = line_settings(session, &other->pair, ntohs(other->address.sin_port));
         if (!ggponet_new_draw(&settings.draw))
             return ggponet_no_draw(session);
         int32_t code = fazgrond_line_open(&session->line[at], &settings);
@@ -63,7 +68,7 @@ GGPOErrorCode ggponet_open_lines(GGPOSession *session) {
 GGPOErrorCode ggponet_open_viewer(GGPOSession *session) {
     if (session->is_open)
         return GGPO_OK;
-    fazgrond_line_settings settings = line_settings(session, session->port);
+    fazgrond_line_settings settings = line_settings(session, &session->machine[HOST].pair, session->port);
     if (!ggponet_new_draw(&settings.draw))
         return ggponet_no_draw(session);
     int32_t code = fazgrond_viewer_open(&session->viewer, &settings);

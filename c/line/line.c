@@ -71,7 +71,8 @@ static uint32_t since(const faz_line *self, uint32_t moment) {
 
 /* Whether bytes are a packet of this library in the name of a machine that isn't at the other end. */
 static bool is_misnamed(const faz_line *self, const uint8_t *bytes, size_t length) {
-    return length > 12 && memcmp(bytes, "FZG", 3) == 0 && bytes[12] != self->settings.other && bytes[12] != FAZGROND_NO_MACHINE;
+    return !self->settings.any_sender && length > 12 && memcmp(bytes, "FZG", 3) == 0 && bytes[12] != self->settings.other
+        && bytes[12] != FAZGROND_NO_MACHINE;
 }
 
 static void keep(faz_line *self, const uint8_t *bytes, size_t length) {
@@ -382,6 +383,7 @@ static const char *copied(faz_line *self, const faz_line_settings *settings) {
     self->settings.me = settings->me;
     self->settings.other = settings->other;
     self->settings.relay_only = settings->relay_only;
+    self->settings.any_sender = settings->any_sender;
     self->settings.stun = settings->stun != NULL ? copy(self->stun, settings->stun) : NULL;
     self->settings.stun_port = settings->stun_port;
     return NULL;

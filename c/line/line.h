@@ -52,6 +52,7 @@ typedef struct faz_line_settings {
     faz_line_relay relays[FAZ_LINE_RELAYS];
     uint32_t relay_count;
     bool relay_only; /* the other machine isn't to see this one's address */
+    bool any_sender; /* packets of this library are taken whatever sender they name: see faz_line_receive */
 } faz_line_settings;
 
 typedef enum faz_line_way { FAZ_LINE_NO_WAY, FAZ_LINE_LAN, FAZ_LINE_DIRECT, FAZ_LINE_RELAYED } faz_line_way;
@@ -102,7 +103,9 @@ bool faz_line_signalled(faz_line *line, const uint8_t *bytes, size_t length);
 bool faz_line_send(faz_line *line, const uint8_t *bytes, size_t length);
 
 /* The next datagram that came, in `out`, which has room for FAZGROND_DATAGRAM bytes. False: there is none. A packet of this
- * library says that it was sent by the other machine, or by no machine (a viewer's line). */
+ * library says that it was sent by the other machine, or by no machine (a viewer's line). With `any_sender` it may name any machine: what
+ * c/rejoin sends does, and a spectator's line of GGPO's calls. Whether a packet for the match names one that sits at the other end is
+ * for you to see then, as c/ggponet does. */
 bool faz_line_receive(faz_line *line, uint8_t *out, size_t room, size_t *length);
 
 void faz_line_look(const faz_line *line, faz_line_state *state);

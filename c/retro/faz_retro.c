@@ -2,6 +2,7 @@
 #define _POSIX_C_SOURCE 200809L
 #include "casting.h"
 #include "check.h"
+#include "online.h"
 #include "watch.h"
 #include "window.h"
 
@@ -15,11 +16,18 @@ static const char usage[] =
     "faz-retro --host PORT [OPTIONS] CORE ROM     waits for the others there, and plays\n"
     "faz-retro --join ADDRESS:PORT [OPTIONS] CORE ROM     plays with those who are there\n"
     "faz-retro --watch ADDRESS:PORT [OPTIONS] CORE ROM    watches their match\n"
+    "faz-retro --host --broker URL [OPTIONS] CORE ROM     the same over the internet: it tells a code, ..\n"
+    "faz-retro --join CODE --broker URL [OPTIONS] CORE ROM     .. by which the others join, or --watch CODE\n"
     "faz-retro --view MATCH --broker URL [OPTIONS] CORE ROM    watches one that is published on a broker; --from FRAME\n"
     "faz-retro --play FILE [OPTIONS] CORE ROM     plays a match again that was recorded\n"
     "CORE is a libretro core, as nestopia_libretro.so, and ROM a game for it, or a .zip with one. All have to have the same.\n"
     "With a key, who joins is given the host's save RAM, options and opening; without, all have to have the same.\n"
     "  --machines N     the host waits for so many in all (2)\n"
+    "  --viewers N      with a code it waits for so many besides, who watch (0)\n"
+    "  --name NAME, --stun ADDRESS[:PORT], --relay USER:PASSWORD@ADDRESS[:PORT], --tcp-relay .., --relay-only, --trusted FILE\n"
+    "  --ask: who joins has to be let in, by y or n; --door: the broker has a door, so that codes are short and --ask is on\n"
+    "                   with a code: yours, as the others see it; servers that help to find a way; the others don't see this\n"
+    "                   machine's address; the certificates by which the broker is believed\n"
     "  --seats N        one or two play at this machine (1)\n"
     "  --key WORDS      the same at all: keeps others out\n"
     "  --delay N, --delay2 N    the words of the first and the second player here count N frames later (1)\n"
@@ -52,9 +60,11 @@ static struct {
     runner main;
     states states;
     verdict verdict;
+    online_wish online;
+    bool by_code;       /* machines meet by one, and send over the lines of a lobby */
     char *option_words; /* of the command line, or the host's */
     const char *options, *ports, *save, *key, *join, *watch, *play, *view;
-    long from_frame, host, machines, seats, delays[SEATS], threshold, helpers, hold, port, timeout, frames, bot, lag, jitter, loss, speed;
+    long from_frame, host, machines, viewers, seats, delays[SEATS], threshold, helpers, hold, port, timeout, frames, bot, lag, jitter, loss, speed;
     bool is_verbose, is_unchecked, goes_again, lasts;
 } self = { .machines = 2, .seats = 1, .delays = { 1, 1 }, .helpers = -1, .hold = -1, .timeout = 5000, .speed = 1, .from_frame = -1,
            .wish = { .broker = "nats://127.0.0.1:4222" } };
@@ -75,7 +85,11 @@ static const option options[] = {
     { "--ports", NULL, &self.ports, NULL },         { "--cast", NULL, &self.wish.cast, NULL },
     { "--view", NULL, &self.view, NULL },           { "--broker", NULL, &self.wish.broker, NULL },
     { "--from", &self.from_frame, NULL, NULL },     { "--hold", &self.hold, NULL, NULL },
-    { "--figures", NULL, &self.wish.figures, NULL },
+    { "--figures", NULL, &self.wish.figures, NULL }, { "--viewers", &self.viewers, NULL, NULL },
+    { "--name", NULL, &self.online.name, NULL },    { "--stun", NULL, &self.online.stun, NULL },
+    { "--relay", NULL, &self.online.relay, NULL },  { "--tcp-relay", NULL, &self.online.tcp_relay, NULL },
+    { "--trusted", NULL, &self.online.trusted, NULL }, { "--relay-only", NULL, NULL, &self.online.relay_only },
+    { "--ask", NULL, NULL, &self.online.asks },      { "--door", NULL, NULL, &self.online.by_door },
     { "--headless", NULL, NULL, &self.wish.is_headless }, { "--again", NULL, NULL, &self.goes_again },
     { "--rejoin", NULL, NULL, &self.lasts },
     { "--unchecked", NULL, NULL, &self.is_unchecked }, { "--verbose", NULL, NULL, &self.is_verbose },
@@ -151,6 +165,24 @@ static const char *no_rejoin(void) {
         : self.join != NULL && self.port == 0 ? "--rejoin needs --port N: the same when this machine comes back"
         : self.helpers > 0 || self.hold > 0 ? "with --rejoin no helper plays ahead, and no word is held back"
         : self.wish.picture != NULL ? "a match with --rejoin has no picture" : NULL;
+}
+
+/* Why what was said doesn't go with a code; null if it does. */
+static const char *no_code(void) {
+    return self.lasts ? "who has left can't come back by a code: --rejoin goes with addresses"
+        : self.key != NULL ? "with a code there is no --key, as the code keeps others out"
+        : self.machines + self.viewers > FAZGROND_MACHINES ? "by a code eight machines meet at most, those that watch among them" : NULL;
+}
+
+/* Whether machines meet by a code. */
+static bool take_code(void) {
+    const char *of = self.watch != NULL ? self.watch : self.join, *why = NULL;
+    self.by_code |= of != NULL && strpbrk(of, ":.") == NULL; /* else it is an address */
+    if (self.by_code)
+        why = no_code();
+    else if (self.viewers > 0)
+        why = "--viewers is said with a code";
+    return why == NULL || (fail(why), false);
 }
 
 /* Whether what was said goes together. */
@@ -312,16 +344,38 @@ static bool meet(core_state *opening) {
     return self.meeting.is_agreed;
 }
 
-static bool open_line(void) {
+static bool open_port(void) {
     const char *host = self.watch != NULL ? self.watch : self.join;
     if (host != NULL && !address_read(host, &self.meeting.host))
         return fail("the host's address can't be read: it is as 10.0.0.7:7000"), false;
     if (!net_open(&self.net, (unsigned short)(self.host > 0 ? self.host : self.port)))
         return fail("the port can't be had"), false;
-    self.meeting.net = &self.net;
     self.meeting.has_key = self.key != NULL && *self.key != 0;
     self.meeting.key = strong_digest_of(self.key != NULL ? self.key : "", self.key != NULL ? strlen(self.key) : 0);
     return true;
+}
+
+/* The meeting begins once all lines are there. */
+static bool open_by_code(void) {
+    online_stage stage = ONLINE_WAITS;
+    self.online.code = self.watch != NULL ? self.watch : self.join;
+    self.online.broker = self.wish.broker;
+    self.online.machines = (uint32_t)(self.machines + self.viewers);
+    if (!online_open(&self.online))
+        return false;
+    while (stage == ONLINE_WAITS && (self.wish.is_headless || window_goes_on())) {
+        stage = online_turn();
+        show_waiting(online_text());
+        net_rest(&self.net, 5000);
+    }
+    if (stage == ONLINE_READY)
+        online_take(&self.net, &self.meeting);
+    return stage == ONLINE_READY;
+}
+
+static bool open_line(void) {
+    self.meeting.net = &self.net;
+    return self.by_code ? open_by_code() : open_port();
 }
 
 /* The match. */
@@ -411,6 +465,7 @@ static int run(void) {
         meeting_close(&self.meeting);
         net_close(&self.net);
     }
+    online_close();
     states_begin(&self.states, false, false);
     core_close(&self.main.core);
     free(opening.at);
@@ -419,7 +474,22 @@ static int run(void) {
     return status;
 }
 
+/* Takes --host without a port out of the words: how many there are then. */
+static int take_host(int count, char **words) {
+    long port;
+    int at = 1;
+    while (at < count && (strcmp(words[at], "--host") != 0 || read_number(words[at + 1], &port)))
+        at++;
+    if (at >= count)
+        return count;
+    memmove(&words[at], &words[at + 1], (size_t)(count - at) * sizeof *words);
+    self.by_code = true;
+    self.host = 1; /* a port that isn't opened */
+    return count - 1;
+}
+
 int main(int count, char **words) {
+    count = take_host(count, words);
     bool is_check = count > 1 && strcmp(words[1], "check") == 0;
     int at = read_options(words + is_check, options);
     verdict found;
@@ -438,7 +508,7 @@ int main(int count, char **words) {
     if (status == 0 && is_check)
         status = check_core(&self.from, self.frames > 0 ? (uint32_t)self.frames : 600, &found) ? 0 : 1;
     else if (status == 0)
-        status = take_rejoin() && take_verdict() ? run() : 1;
+        status = take_code() && take_rejoin() && take_verdict() ? run() : 1;
     free(self.option_words);
     free(self.from.library.at);
     free(self.from.rom.at);

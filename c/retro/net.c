@@ -61,6 +61,11 @@ bool net_open(net *self, unsigned short port) {
     return self->is_open && bind(self->socket, (struct sockaddr *)&here, sizeof here) == 0 && make_unblocking(self->socket);
 }
 
+void net_open_wire(net *self, const net_wire *wire) {
+    self->random = net_draw();
+    self->wire = wire;
+}
+
 void net_close(net *self) {
     while (self->late != NULL) {
         late *one = self->late;
@@ -82,6 +87,10 @@ static uint32_t draw_below(net *self, uint32_t below) {
 }
 
 static void send_now(const net *self, const address *to, const uint8_t *bytes, size_t length) {
+    if (self->wire != NULL) {
+        self->wire->send(to, bytes, length);
+        return;
+    }
     /* what can't be sent is lost, as it may be anyway */
     (void)!sendto(self->socket, (const char *)bytes, length, 0, (const struct sockaddr *)to, sizeof *to);
 }
@@ -104,6 +113,8 @@ void net_send(net *self, const address *to, const uint8_t *bytes, size_t length)
 
 void net_flush(net *self) {
     uint32_t now = net_now(self);
+    if (self->wire != NULL)
+        self->wire->turn();
     for (late **at = &self->late; *at != NULL;) {
         late *one = *at;
         if ((int32_t)(one->due - now) > 0) {
@@ -118,6 +129,8 @@ void net_flush(net *self) {
 
 long net_next(net *self, address *from, uint8_t *bytes, size_t room) {
     socklen_t size = sizeof *from;
+    if (self->wire != NULL)
+        return self->wire->next(from, bytes, room);
     memset(from, 0, sizeof *from);
     return (long)recvfrom(self->socket, (char *)bytes, room, 0, (struct sockaddr *)from, &size);
 }

@@ -1,4 +1,4 @@
-/* A UDP socket, and a line that can be made worse for what this machine sends. */
+/* A UDP socket, or what stands in its place, and a line that can be made worse for what this machine sends. */
 #ifndef RETRO_NET_H
 #define RETRO_NET_H
 
@@ -16,9 +16,17 @@ typedef int socket_t;
 
 typedef struct sockaddr_in address;
 
+/* What may stand in the place of a socket. Addresses are names then. */
+typedef struct net_wire {
+    void (*turn)(void); /* once a turn, or more often */
+    void (*send)(const address *to, const uint8_t *bytes, size_t length);
+    long (*next)(address *from, uint8_t *bytes, size_t room); /* as net_next */
+} net_wire;
+
 typedef struct net {
     socket_t socket;
     bool is_open;
+    const net_wire *wire; /* null: there is the socket */
     uint32_t lag, jitter, loss; /* milliseconds, by how many more or less, and how many of a hundred are lost */
     uint32_t speed;             /* the clock runs so many times as fast */
     uint64_t random;
@@ -27,6 +35,8 @@ typedef struct net {
 } net;
 
 bool net_open(net *self, unsigned short port);
+/* The same over a wire, which stays as it is. */
+void net_open_wire(net *self, const net_wire *wire);
 void net_close(net *self);
 /* Milliseconds of the clock. */
 uint32_t net_now(const net *self);

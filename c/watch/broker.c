@@ -16,7 +16,7 @@ static void on_error(natsConnection *connection, natsSubscription *subscription,
         fprintf(stderr, "broker: %s\n", text);
 }
 
-/* Without such a function the first connection would be waited for. */
+/* Without such a function all tries would be waited for until there is a connection. */
 static void on_connected(natsConnection *connection, void *closure) { (void)connection, (void)closure; }
 
 static natsStatus set_servers(natsOptions *options, char *text) {
@@ -27,12 +27,12 @@ static natsStatus set_servers(natsOptions *options, char *text) {
     return natsOptions_SetServers(options, servers, count);
 }
 
-static natsStatus connect_to(faz_broker *self, const char *servers) {
+static natsStatus make_connection(faz_broker *self) {
     natsOptions *options = NULL;
-    char *text = malloc(strlen(servers) + 1);
+    char *text = malloc(strlen(self->servers) + 1);
     natsStatus status = text != NULL ? natsOptions_Create(&options) : NATS_NO_MEMORY;
     if (status == NATS_OK)
-        status = set_servers(options, strcpy(text, servers));
+        status = set_servers(options, strcpy(text, self->servers));
     if (status == NATS_OK) {
         natsOptions_SetMaxReconnect(options, -1);
         natsOptions_SetReconnectWait(options, 100);
@@ -48,14 +48,35 @@ static natsStatus connect_to(faz_broker *self, const char *servers) {
     return status;
 }
 
+/* Whether a text up to a comma or its end is a server's address, with nats:// or tls:// before it or nothing. */
+static bool is_server(const char *text) {
+    size_t length = strcspn(text, ",");
+    for (const char *at = text; at < text + length; at++)
+        if (*at <= ' ' || *at > '~')
+            return false;
+    const char *scheme = strstr(text, "://");
+    bool has_scheme = scheme != NULL && scheme < text + length;
+    return length > 0
+        && (!has_scheme || (strncmp(text, "nats://", 7) == 0 && length > 7) || (strncmp(text, "tls://", 6) == 0 && length > 6));
+}
+
 bool faz_broker_open(faz_broker *self, const char *servers) {
-    *self = (faz_broker){ 0 };
-    natsStatus status = connect_to(self, servers);
+    bool are_servers = is_server(servers);
+    for (const char *at = servers; are_servers && (at = strchr(at, ',')) != NULL;)
+        are_servers = is_server(++at);
+    *self = (faz_broker){ .servers = servers };
+    return are_servers;
+}
+
+bool faz_broker_reach(faz_broker *self) {
+    natsStatus status = make_connection(self);
     if (status == NATS_OK || status == NATS_NOT_YET_CONNECTED)
         status = natsConnection_JetStream(&self->stream, self->connection, NULL);
-    if (status != NATS_OK)
-        faz_broker_close(self);
-    return status == NATS_OK;
+    if (status == NATS_OK)
+        return true;
+    natsConnection_Destroy(self->connection);
+    self->connection = NULL;
+    return false;
 }
 
 void faz_broker_close(faz_broker *self) {

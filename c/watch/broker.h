@@ -11,13 +11,18 @@
 #define FAZ_LIVE "live"
 
 typedef struct faz_broker {
+    const char *servers;
     natsConnection *connection;
     jsCtx *stream;
 } faz_broker;
 
-/* Connects to one of these servers, nats://127.0.0.1:4222,nats://.., each with a user and a password if it wants them, and to
- * another one whenever the connection is lost, for as long as it takes. False if they can't be read. */
+/* A broker of these servers, nats://127.0.0.1:4222,nats://.., each with a user and a password if it wants them. They stay where
+ * they are until it is closed. Nothing is connected yet, so nothing waits. False if they can't be read. */
 bool faz_broker_open(faz_broker *broker, const char *servers);
+
+/* Connects to one of them, and to another one whenever the connection is lost, for as long as it takes. The first try is waited
+ * for, up to two seconds for each server. Before it no other call is made but faz_broker_close. False if it can't be: try again. */
+bool faz_broker_reach(faz_broker *broker);
 void faz_broker_close(faz_broker *broker);
 
 /* Makes the stream, kept by so many servers, unless it is there. */

@@ -332,10 +332,21 @@ static void wait_for_some(faz_cast *self) {
     sem_timedwait(&self->something, &until);
 }
 
+/* Connects to the broker. False: there is no time left for it. */
+static bool reach(faz_cast *self) {
+    while (!faz_broker_reach(&self->broker)) {
+        atomic_store(&self->failure, (int)NATS_NO_SERVER);
+        if (is_late(self))
+            return false;
+        nats_Sleep(PAUSE);
+    }
+    return true;
+}
+
 static void *send_all(void *closure) {
     faz_cast *self = closure;
     size_t at = 0;
-    bool goes_on = deliver(self, FAZ_HEAD, 0, faz_write_head(self->bytes, self->number, &self->head));
+    bool goes_on = reach(self) && deliver(self, FAZ_HEAD, 0, faz_write_head(self->bytes, self->number, &self->head));
     while (goes_on) {
         if (at < atomic_load(&self->given)) {
             goes_on = send_entry(self, &self->kept[at % KEPT]);

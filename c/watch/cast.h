@@ -43,21 +43,22 @@ void faz_cast_settled(faz_cast *cast, uint32_t frame, const void *state);
 /* After each turn of a session: both, with its settled state (fazgrond_settled_slot). */
 void faz_cast_turn(faz_cast *cast, fazgrond_session *session, uint32_t frame, const void *state);
 
-/* The next row that is given is that of this frame: this machine came into the match there. Viewers are told that it has none of those
- * before, unless it has given them; another one who publishes may have them. A machine that came in before its first row can be told of
- * has no opening to publish, so call this before anything else then. */
+/* The next row that is given is that of this frame: this machine came into the match there. Viewers are told that it has none of
+ * those before, unless it has given them; another one who publishes may have them. A machine that came in before its first row
+ * can be told of has no opening to publish, so call this before anything else then. */
 void faz_cast_from(faz_cast *cast, uint64_t frame);
 
 /* ---- A match that goes on in epochs: faz_cast_turn reads the frames of the session that it is lent, which are an epoch's.
  *
- * So many frames of the match came before the epoch in which this machine came in. Rows of them that it has are given by faz_cast_row
- * first. */
+ * So many frames of the match came before the epoch in which this machine came in. Rows of them that it has are given by
+ * faz_cast_row first. */
 void faz_cast_epoch(faz_cast *cast, uint64_t base);
 
 #if FAZGROND_VERSION >= 0x000101
-/* In the place of fazgrond_peer_go_on, whose answer it gives: publishes the rows of an epoch that is over, and goes on with the next.
- * Call fazgrond_synchronize_input before it if fazgrond_has_news, and carry out its requests; and call faz_cast_turn right after it has
- * answered FAZGROND_NOTHING, before the session is given words, and at no other place: rows that are settled later may be past the end. */
+/* In the place of fazgrond_peer_go_on, whose answer it gives: publishes the rows of an epoch that is over, and goes on with the
+ * next. Call fazgrond_synchronize_input before it if fazgrond_has_news, and carry out its requests; and call faz_cast_turn right
+ * after it has answered FAZGROND_NOTHING, before the session is given words, and at no other place: rows that are settled later
+ * may be past the end. */
 int32_t faz_cast_go_on(faz_cast *cast, fazgrond_session *session, fazgrond_peer *peer, uint32_t *frames);
 #endif
 
@@ -66,7 +67,8 @@ void faz_cast_end(faz_cast *cast, const char *reason);
 
 void faz_cast_look(faz_cast *cast, faz_cast_state *state);
 
-/* Waits so many milliseconds at most until the broker has all, and gives all back. Whether it has all, and how far it came. */
+/* Waits so many milliseconds at most until the broker has all, or up to two seconds more if it was never there, and gives all
+ * back. Whether it has all, and how far it came. */
 bool faz_cast_close(faz_cast *cast, uint32_t milliseconds, faz_cast_state *state);
 
 #ifdef __cplusplus

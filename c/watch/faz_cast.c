@@ -35,7 +35,7 @@ static int fail(const char *why) {
 static int create(void) {
     faz_broker broker;
     char said[128];
-    if (!faz_broker_open(&broker, self.broker))
+    if (!faz_broker_open(&broker, self.broker) || !faz_broker_reach(&broker))
         return fail("the servers can't be read");
     natsStatus status = faz_broker_create(&broker, (int)self.replicas);
     if (status == NATS_OK)

@@ -74,7 +74,7 @@ static void bad_snapshots(uint64_t number, uint32_t frame) {
 }
 
 int main(int count, char **words) {
-    if (count != 4 || !faz_broker_open(&broker, words[1]))
+    if (count != 4 || !faz_broker_open(&broker, words[1]) || !faz_broker_reach(&broker))
         return 2;
     match = words[2];
     uint32_t frame = (uint32_t)atoi(words[3]) / FAZ_RUN * FAZ_RUN;

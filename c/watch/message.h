@@ -62,8 +62,9 @@ faz_kind faz_kind_of(const uint8_t *bytes, size_t length);
 /* The first frame of a run, and the frame of a snapshot, a digest or an end; 0 of what has none. */
 uint32_t faz_frame_of(const uint8_t *bytes, size_t length);
 
-/* Each writes a message, into FAZ_SMALL bytes, and says how many it wrote. Of rows there are 1 or more, up to the next frame that is a
- * multiple of FAZ_RUN, and who is gone in one of them is gone in all that follow: where somebody comes back another run begins. */
+/* Each writes a message, into FAZ_SMALL bytes, and says how many it wrote. Of rows there are 1 or more, up to the next frame
+ * that is a multiple of FAZ_RUN, and who is gone in one of them is gone in all that follow: where somebody comes back another
+ * run begins. */
 size_t faz_write_head(uint8_t *out, uint64_t number, const faz_head *head);
 size_t faz_write_rows(uint8_t *out, uint64_t number, uint32_t first, const fazgrond_row *rows, uint32_t count);
 size_t faz_write_sum(uint8_t *out, uint64_t number, const faz_sum *sum);

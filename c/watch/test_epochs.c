@@ -1,5 +1,6 @@
-/* A match of two machines that goes on in epochs, in one process: each publishes it by faz_cast_go_on and faz_cast_turn. What a viewer is
- * shown at each frame of the match has to be what the game came to there, when that frame was stepped last. test_epochs BROKER MATCH */
+/* A match of two machines that goes on in epochs, in one process: each publishes it by faz_cast_go_on and faz_cast_turn. What a
+ * viewer is shown at each frame of the match has to be what the game came to there, when that frame was stepped last.
+ * test_epochs BROKER MATCH */
 #define _POSIX_C_SOURCE 200809L
 #include "cast.h"
 #include "duel_game.h"

@@ -238,6 +238,11 @@ static void ask_rows(faz_view *self) {
 static void *read_all(void *closure) {
     faz_view *self = closure;
     char subject[FAZ_SUBJECT];
+    while (!faz_broker_reach(&self->broker)) {
+        if (atomic_load(&self->is_closing))
+            return NULL;
+        nats_Sleep(POLL);
+    }
     snprintf(subject, sizeof subject, FAZ_LIVE ".%s.*", self->match);
     natsConnection_SubscribeSync(&self->live, self->broker.connection, subject);
     while (!atomic_load(&self->is_closing)) {

@@ -1,4 +1,5 @@
-//! Links libfazgrond.a, from the folder that FAZGROND_LIB_DIR names, else from where `make` leaves it in this repository.
+//! Links libfazgrond.a, and with the feature `online` libfaz_line.so, from the folder that FAZGROND_LIB_DIR names, else from where
+//! `make` leaves them in this repository.
 use std::env;
 use std::path::PathBuf;
 
@@ -21,4 +22,7 @@ fn main() {
     }
     println!("cargo:rustc-link-search=native={}", folder.display());
     println!("cargo:rustc-link-lib=static=fazgrond");
+    if env::var_os("CARGO_FEATURE_ONLINE").is_some() {
+        println!("cargo:rustc-link-lib=dylib=faz_line");
+    }
 }

@@ -1,7 +1,8 @@
 #!/usr/bin/env python3
-"""Asks a TURN server for what it has to refuse, and for what it has to give: turn.py ADDRESS PORT SECRET PEER
+"""Asks a TURN server for what it has to refuse, and for what it has to give: turn.py ADDRESS PORT SECRET PEER [loopback]
 
-It is written from RFC 8489 and RFC 8656. PEER is an address that the server may relay to. Each line of what it writes is a check that
+It is written from RFC 8489 and RFC 8656. PEER is an address that the server may relay to, and so is this machine's own
+with `loopback`. Each line of what it writes is a check that
 failed; its status is 1 if there is any.
 """
 import base64
@@ -102,7 +103,9 @@ def main():
     client = Client(server)
     check("one with a good password", client.allocated(user, password), 0)
     check("a peer elsewhere", client.permitted(peer, user, password), 0)
-    for private in ["10.1.2.3", "172.16.0.1", "192.168.1.2", "127.0.0.1", "169.254.169.254", "100.64.0.1", "0.0.0.0", "224.0.0.1"]:
+    loopback = 0 if sys.argv[5:] == ["loopback"] else 403
+    check("a peer 127.0.0.1", client.permitted("127.0.0.1", user, password), loopback)
+    for private in ["10.1.2.3", "172.16.0.1", "192.168.1.2", "169.254.169.254", "100.64.0.1", "0.0.0.0", "224.0.0.1"]:
         check(f"a peer {private}", client.permitted(private, user, password), 403)
     check("giving it back", client.asked(REFRESH, attribute(LIFETIME, bytes(4)), user, password), 0)
     sys.exit(failed)

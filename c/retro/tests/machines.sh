@@ -16,7 +16,7 @@ has_headers() {
 
 # The program without a window, with the sanitizers, and what is named beside that.
 compile() {
-    sources=$(ls retro/*.c rejoin/*.c | grep -v 'window.c\|keys.c\|casting.c')
+    sources=$(ls retro/*.c rejoin/*.c | grep -v 'window.c\|keys.c\|casting.c\|online.c')
     check "faz-retro compiles without SDL" cc $with $clean -DRETRO_HEADLESS $sources "$@" out/libfazgrond.a \
         -o "$work/faz-retro" $libraries
 }

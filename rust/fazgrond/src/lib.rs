@@ -102,6 +102,10 @@ mod habits;
 mod handle;
 mod job;
 mod line;
+#[cfg(feature = "online")]
+pub mod online;
+#[cfg(feature = "online")]
+mod online_raw;
 mod owned;
 mod peer;
 mod raw;

@@ -1,0 +1,43 @@
+/* A match of the duel whose machines meet by a code (docs/ONLINE.md). Without DUEL_ONLINE there is none, and neither the NATS
+ * library nor libnice is needed. */
+#ifndef DUEL_ONLINE_H
+#define DUEL_ONLINE_H
+
+#include "duel.h"
+
+#include <ggponet.h>
+#include <stdio.h>
+
+/* What the command line says. */
+typedef struct online {
+    long host;                /* so many play, and this machine hosts; 0: it joins */
+    const char *code, *broker, *trusted, *stun, *relay, *tcp_relay, *name;
+    bool relay_only, asks, by_door, lasts;
+    /* What was met. */
+    int players;
+    bool is_local[DUEL_SHIPS]; /* player 1 first */
+} online;
+
+#ifdef DUEL_ONLINE
+/* Waits until all are there, and says what happens meanwhile. False if it won't come to a match, and why is said. */
+bool online_meet(online *self);
+/* A player as the session is to add it. */
+void online_player(const online *self, int number, GGPOPlayer *player);
+/* The session goes over the lines, and its packets are sealed by numbers of the lobby: one of the match, before the players are
+ * added .. */
+bool online_take(GGPOSession *session);
+/* .. and one of each pair, once they are, if nobody can come back. */
+bool online_seal(GGPOSession *session);
+void online_close(void);
+#else
+static inline bool online_meet(online *self) {
+    (void)self;
+    fputs("duel: it was built without libnats-dev, libnice-dev and libsodium-dev: it has no codes\n", stderr);
+    return false;
+}
+static inline void online_player(const online *self, int number, GGPOPlayer *player) { (void)self, (void)number, (void)player; }
+static inline bool online_take(GGPOSession *session) { return session == NULL; }
+static inline bool online_seal(GGPOSession *session) { return session == NULL; }
+static inline void online_close(void) {}
+#endif
+#endif

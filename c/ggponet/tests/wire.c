@@ -1,0 +1,485 @@
+/* Sessions in one process whose wire is a list in memory, which loses datagrams, brings some twice, and all of them late and in another
+ * order. Three machines with four players, and a spectator, must step by the inputs of a plain run, as they do over sockets; so must a
+ * machine that was stopped and comes back. Then what is refused. It prints nothing if all is right. wire PORT */
+#include <fazgrond.h>
+#include <ggponet.h>
+#include <stdio.h>
+#include <stdlib.h>
+#include <string.h>
+
+#define MUST(what) \
+    do { \
+        if (!(what)) { \
+            fprintf(stderr, "line %d: %s\n", __LINE__, #what); \
+            exit(1); \
+        } \
+    } while (0)
+
+enum { PLAYERS = 4, MACHINES = 3, VIEWER = MACHINES, ALL, FRAMES = 400, MOST = 5000, WAITING = 512, LOST = 20, TWICE = 10,
+       LATE = 12 };
+
+/* Where each player sits. */
+static const int home[PLAYERS] = { 0, 1, 0, 2 };
+
+typedef struct datagram {
+    int from, to; /* machines; `to` is negative if there is none here */
+    int wait;     /* so often its receiver looks before it is there */
+    int length;
+    unsigned long order; /* in which they were sent */
+    unsigned char bytes[FAZGROND_DATAGRAM];
+} datagram;
+
+static datagram list[WAITING];
+static unsigned long sent, lost, twice, overtaken;
+
+static struct game {
+    int frame;
+    unsigned number;
+    unsigned at[MOST]; /* the number at each frame, as it was played last */
+    int again, buffers, is_running, epochs, gone;
+    unsigned long newest; /* of those that came, the one that was sent last */
+    bool is_cut;          /* what it sends is lost */
+    GGPOSession *session;
+} games[ALL];
+
+/* The one of whom a call is being made: GGPO's callbacks aren't told. */
+static struct game *game;
+
+static unsigned draw(unsigned below) {
+    static unsigned long long state = 88172645463325252u;
+    state ^= state << 13;
+    state ^= state >> 7;
+    state ^= state << 17;
+    return (unsigned)(state >> 16) % below;
+}
+
+/* ---- the wire */
+
+/* Names are those of events. */
+static int machine_of(int me, GGPOPlayerHandle name) {
+    if (me == VIEWER) {
+        MUST(name == 0);
+        return 0;
+    }
+    if (name >= 1000) {
+        MUST(name == 1000 && me == 0);
+        return VIEWER;
+    }
+    MUST(name == 1 || name == 2 || name == 4); /* the first player of each machine */
+    MUST(home[name - 1] != me);
+    return home[name - 1];
+}
+
+/* Any player of a machine names it. */
+static GGPOPlayerHandle name_of(int me, int machine) {
+    if (me == VIEWER)
+        return 0;
+    if (machine == VIEWER)
+        return 1000;
+    int player = (int)draw(PLAYERS);
+    while (home[player] != machine)
+        player = (player + 1) % PLAYERS;
+    return player + 1;
+}
+
+static void put(int from, int to, const unsigned char *bytes, int length) {
+    for (int at = 0; at < WAITING; at++)
+        if (list[at].to < 0) {
+            list[at] = (datagram){ .from = from, .to = to, .wait = (int)draw(LATE), .length = length,
+                                    .order = sent };
+            memcpy(list[at].bytes, bytes, (size_t)length);
+            return;
+        }
+    lost++;
+}
+
+static void on_send(void *wire, GGPOPlayerHandle to, const unsigned char *bytes, int length) {
+    struct game *of = wire;
+    int me = (int)(of - games), machine = machine_of(me, to);
+    MUST(of == game && length > 0 && length <= FAZGROND_DATAGRAM);
+    sent++;
+    if (of->is_cut || draw(100) < LOST) {
+        lost++;
+        return;
+    }
+    put(me, machine, bytes, length);
+    if (draw(100) < TWICE) {
+        twice++;
+        put(me, machine, bytes, length);
+    }
+}
+
+static bool on_receive(void *wire, GGPOPlayerHandle *from, unsigned char *bytes, int room, int *length) {
+    struct game *of = wire;
+    int me = (int)(of - games);
+    MUST(of == game && room >= FAZGROND_DATAGRAM);
+    for (int at = 0; at < WAITING; at++) {
+        datagram *one = &list[at];
+        if (one->to != me || one->wait-- > 0)
+            continue;
+        one->to = -1;
+        overtaken += one->order < of->newest;
+        of->newest = one->order > of->newest ? one->order : of->newest;
+        *from = name_of(me, one->from);
+        *length = one->length;
+        memcpy(bytes, one->bytes, (size_t)one->length);
+        return true;
+    }
+    return false;
+}
+
+static void empty(void) {
+    for (int at = 0; at < WAITING; at++)
+        list[at].to = -1;
+}
+
+/* ---- the game */
+
+static unsigned short input_of(int player, int frame) {
+    return (unsigned short)((unsigned)(frame / (player + 1) * 7 + player) * 2654435761u >> 16);
+}
+
+static unsigned step_of(unsigned number, const unsigned short *inputs) {
+    for (int at = 0; at < PLAYERS; at++)
+        number = number * 31 + inputs[at];
+    return number;
+}
+
+static void note(void) {
+    MUST(game->frame < MOST);
+    game->at[game->frame] = game->number;
+}
+
+static void step(const unsigned short *inputs) {
+    game->number = step_of(game->number, inputs);
+    game->frame++;
+    note();
+}
+
+static bool on_save(unsigned char **buffer, int *len, int *checksum, int frame) {
+    MUST(frame == game->frame);
+    *len = 2 * sizeof(int);
+    *buffer = malloc((size_t)*len);
+    MUST(*buffer != NULL);
+    memcpy(*buffer, game, (size_t)*len);
+    *checksum = (int)game->number;
+    game->buffers++;
+    return true;
+}
+
+static bool on_load(unsigned char *buffer, int len) {
+    MUST(len == 2 * sizeof(int));
+    memcpy(game, buffer, (size_t)len);
+    note();
+    return true;
+}
+
+static void on_free(void *buffer) {
+    free(buffer);
+    game->buffers--;
+}
+
+static bool on_advance(int flags) {
+    unsigned short inputs[PLAYERS];
+    MUST(flags == 0 && ggpo_synchronize_input(game->session, inputs, sizeof inputs, NULL) == GGPO_OK);
+    game->again++;
+    step(inputs);
+    return ggpo_advance_frame(game->session) == GGPO_OK;
+}
+
+static bool on_event(GGPOEvent *info) {
+    MUST(info->code != FAZGGPO_EVENTCODE_DESYNC && info->code != FAZGGPO_EVENTCODE_DROPPED);
+    game->is_running += info->code == GGPO_EVENTCODE_RUNNING;
+    game->epochs += info->code == FAZGGPO_EVENTCODE_EPOCH;
+    game->gone += info->code == GGPO_EVENTCODE_DISCONNECTED_FROM_PEER;
+    return true;
+}
+
+static GGPOSessionCallbacks calls = { .save_game_state = on_save, .load_game_state = on_load, .free_buffer = on_free,
+                                      .advance_frame = on_advance, .on_event = on_event };
+static char name[] = "wire";
+static int port;
+static int speed = 100, turn_time = 16; /* of the clock, and in its milliseconds */
+
+/* ---- sessions */
+
+typedef struct way {
+    bool by_wire;     /* else over sockets */
+    bool has_numbers; /* each pair has its own */
+    bool can_rejoin;
+} way;
+
+/* On a wire addresses are names: this one isn't there. */
+static char *address_by(const way *by) {
+    static char nowhere[] = "240.0.0.1", here[] = "127.0.0.1";
+    return by->by_wire ? nowhere : here;
+}
+
+static GGPOErrorCode add(GGPOPlayerType type, int number, const char *address, int at) {
+    GGPOPlayer added = { .size = sizeof added, .type = type, .player_num = number };
+    GGPOPlayerHandle handle;
+    memcpy(added.u.remote.ip_address, address, strlen(address) + 1);
+    added.u.remote.port = (unsigned short)at;
+    return ggpo_add_player(game->session, &added, &handle);
+}
+
+static void set_up(const way *by) {
+    FazggpoWire wire = { game, on_send, on_receive };
+    MUST(fazggpo_set_speed(game->session, speed) == GGPO_OK && ggpo_set_disconnect_timeout(game->session, 0) == GGPO_OK);
+    MUST((by->by_wire ? fazggpo_set_wire(game->session, &wire) : fazggpo_set_line(game->session, 50, LOST, 0)) == GGPO_OK);
+    MUST(!by->can_rejoin || fazggpo_rejoin(game->session) == GGPO_OK);
+}
+
+static uint64_t number_of(int one, int other) { return 0x1234567890abcdefu * (uint64_t)(1 + one + other + 10 * one * other); }
+
+static void add_players(int me, const way *by) {
+    for (int player = 0; player < PLAYERS; player++) {
+        bool is_here = home[player] == me;
+        MUST(add(is_here ? GGPO_PLAYERTYPE_LOCAL : GGPO_PLAYERTYPE_REMOTE, player + 1, address_by(by), port + home[player]) == GGPO_OK);
+        if (by->has_numbers && !is_here)
+            MUST(fazggpo_set_number(game->session, player + 1, number_of(me, home[player])) == GGPO_OK);
+    }
+}
+
+static void begin(int me, const way *by) {
+    game = &games[me];
+    memset(game, 0, sizeof *game);
+    MUST(ggpo_start_session(&game->session, &calls, name, PLAYERS, sizeof(short), (unsigned short)(by->by_wire ? 0 : port + me)) == GGPO_OK);
+    set_up(by);
+    add_players(me, by);
+    if (me != 0 || by->can_rejoin)
+        return;
+    MUST(add(GGPO_PLAYERTYPE_SPECTATOR, 0, address_by(by), port + VIEWER) == GGPO_OK);
+    MUST(!by->has_numbers || fazggpo_set_number(game->session, 1000, number_of(0, VIEWER)) == GGPO_OK);
+}
+
+/* Without a number of the pair both ends make one of the spectator's port, which is closed once there is a wire. */
+static void begin_viewer(const way *by) {
+    bool needs_port = !by->by_wire || !by->has_numbers;
+    game = &games[VIEWER];
+    memset(game, 0, sizeof *game);
+    MUST(ggpo_start_spectating(&game->session, &calls, name, PLAYERS, sizeof(short), (unsigned short)(needs_port ? port + VIEWER : 0),
+                               address_by(by), (unsigned short)port) == GGPO_OK);
+    set_up(by);
+    MUST(!by->has_numbers || fazggpo_set_number(game->session, 0, number_of(0, VIEWER)) == GGPO_OK);
+}
+
+static void turn(int me) {
+    unsigned short inputs[PLAYERS];
+    GGPOErrorCode code = GGPO_OK;
+    game = &games[me];
+    for (int player = 0; player < PLAYERS && code == GGPO_OK; player++) {
+        unsigned short input = input_of(player, game->frame);
+        if (me != VIEWER && home[player] == me)
+            code = ggpo_add_local_input(game->session, player + 1, &input, sizeof input);
+    }
+    if (code == GGPO_OK)
+        code = ggpo_synchronize_input(game->session, inputs, sizeof inputs, NULL);
+    MUST(code == GGPO_OK || code == GGPO_ERRORCODE_PREDICTION_THRESHOLD || code == GGPO_ERRORCODE_NOT_SYNCHRONIZED);
+    if (code == GGPO_OK) {
+        step(inputs);
+        MUST(ggpo_advance_frame(game->session) == GGPO_OK);
+    }
+    MUST(ggpo_idle(game->session, turn_time) == GGPO_OK);
+}
+
+static void turn_all(int count) {
+    for (int me = 0; me < count; me++)
+        turn(me);
+}
+
+static int settled(int me) {
+    int frame = 0;
+    return fazggpo_get_settled(games[me].session, &frame) == GGPO_OK ? frame : 0;
+}
+
+/* How many frames all machines have settled. */
+static int settled_by_all(void) {
+    int least = settled(0);
+    for (int me = 1; me < MACHINES; me++)
+        least = settled(me) < least ? settled(me) : least;
+    return least;
+}
+
+static void end(int me) {
+    game = &games[me];
+    MUST(ggpo_close_session(game->session) == GGPO_OK && game->buffers == 0);
+}
+
+/* ---- what is tried */
+
+/* All four come to the numbers of a plain run. */
+static void plays(const way *by) {
+    int seen = 0;
+    unsigned number = 0;
+    empty();
+    for (int me = 0; me < MACHINES; me++)
+        begin(me, by);
+    begin_viewer(by);
+    for (int turns = 0; settled_by_all() < FRAMES || seen < FRAMES || games[VIEWER].frame < FRAMES; turns++) {
+        MUST(turns < 10 * FRAMES);
+        turn_all(ALL);
+        (void)fazggpo_get_watched(games[0].session, 1000, &seen);
+    }
+    for (int frame = 0; frame < FRAMES; frame++) {
+        unsigned short inputs[PLAYERS];
+        for (int player = 0; player < PLAYERS; player++)
+            inputs[player] = input_of(player, frame);
+        number = step_of(number, inputs);
+        for (int me = 0; me < ALL; me++)
+            MUST(games[me].at[frame + 1] == number);
+    }
+    MUST(games[0].again + games[1].again + games[2].again > 0 && games[VIEWER].again == 0);
+    for (int me = 0; me < ALL; me++)
+        end(me);
+}
+
+/* Over the wire it was lost, brought twice, and late. */
+static void plays_on_wire(bool has_numbers) {
+    way by = { .by_wire = true, .has_numbers = has_numbers };
+    sent = lost = twice = overtaken = 0;
+    plays(&by);
+    MUST(sent > 2000 && lost > sent / 10 && twice > sent / 20 && overtaken > sent / 10);
+}
+
+/* From the frame on from which machine 2 has them, all three settled the same. */
+static void is_alike(int from, int last) {
+    for (int frame = from; frame < last; frame++) {
+        unsigned short inputs[PLAYERS];
+        MUST(fazggpo_get_settled_input(games[0].session, frame, inputs, sizeof inputs, NULL) == GGPO_OK);
+        MUST(games[0].at[frame + 1] == step_of(games[0].at[frame], inputs));
+        MUST(games[1].at[frame + 1] == games[0].at[frame + 1] && games[2].at[frame + 1] == games[0].at[frame + 1]);
+    }
+}
+
+/* Machine 2 stops without a word, and is begun anew: it comes back. Three machines take a turn in the time of one. */
+static void comes_back(void) {
+    way by = { .by_wire = true, .can_rejoin = true };
+    int from = 0;
+    speed = 4, turn_time = 5;
+    empty();
+    for (int me = 0; me < MACHINES; me++)
+        begin(me, &by);
+    while (games[0].frame < 100)
+        turn_all(MACHINES);
+    games[2].is_cut = true;
+    end(2);
+    empty();
+    begin(2, &by);
+    for (int turns = 0; games[2].epochs == 0 || settled_by_all() < from + 200; turns++) {
+        MUST(turns < 4000);
+        turn_all(MACHINES);
+        (void)fazggpo_get_settled_from(games[2].session, &from);
+    }
+    MUST(games[0].gone > 0 && games[1].gone > 0 && games[0].epochs > 0 && games[1].epochs > 0);
+    is_alike(from, settled_by_all());
+    for (int me = 0; me < MACHINES; me++)
+        end(me);
+    speed = 100, turn_time = 16;
+}
+
+/* Two machines to whom different numbers were told don't hear each other, so that neither is in a match. */
+static void strangers(void) {
+    way by = { .by_wire = true, .has_numbers = true };
+    empty();
+    for (int me = 0; me < MACHINES; me++)
+        begin(me, &by);
+    MUST(fazggpo_set_number(games[2].session, 2, number_of(1, 2) + 1) == GGPO_OK);
+    for (int turns = 0; turns < 200; turns++)
+        turn_all(MACHINES);
+    MUST(games[1].is_running + games[2].is_running == 0);
+    for (int me = 0; me < MACHINES; me++)
+        end(me);
+}
+
+/* ---- what is refused */
+
+static bool says(const char *why) { return strcmp(ggpo_last_error(game->session), why) == 0; }
+
+/* A wire closes the port. */
+static void refused_wires(void) {
+    FazggpoWire wire = { game, on_send, on_receive }, no_send = { game, NULL, on_receive }, no_receive = { game, on_send, NULL };
+    GGPOSession *other;
+    MUST(fazggpo_set_wire(NULL, &wire) == GGPO_ERRORCODE_INVALID_SESSION);
+    MUST(ggpo_start_synctest(&game->session, &calls, name, 2, sizeof(short), 1) == GGPO_OK);
+    MUST(fazggpo_set_wire(game->session, &wire) == GGPO_ERRORCODE_UNSUPPORTED && says("a sync test sends nothing"));
+    MUST(ggpo_close_session(game->session) == GGPO_OK);
+    MUST(ggpo_start_session(&game->session, &calls, name, PLAYERS, sizeof(short), (unsigned short)port) == GGPO_OK);
+    MUST(fazggpo_set_wire(game->session, NULL) == GGPO_ERRORCODE_INVALID_REQUEST);
+    MUST(fazggpo_set_wire(game->session, &no_send) == GGPO_ERRORCODE_INVALID_REQUEST);
+    MUST(fazggpo_set_wire(game->session, &no_receive) == GGPO_ERRORCODE_INVALID_REQUEST);
+    MUST(says("no wire, or a function of it is missing"));
+    MUST(ggpo_start_session(&other, &calls, name, PLAYERS, sizeof(short), (unsigned short)port) == GGPO_ERRORCODE_GENERAL_FAILURE);
+    MUST(fazggpo_set_wire(game->session, &wire) == GGPO_OK && fazggpo_set_wire(game->session, &wire) == GGPO_OK);
+    MUST(ggpo_start_session(&other, &calls, name, PLAYERS, sizeof(short), (unsigned short)port) == GGPO_OK);
+    MUST(ggpo_close_session(other) == GGPO_OK && ggpo_close_session(game->session) == GGPO_OK);
+}
+
+/* Numbers are for pairs that there are, before the match opens. */
+static void refused_numbers(void) {
+    way by = { .by_wire = true }, lasts = { .by_wire = true, .can_rejoin = true };
+    static const GGPOPlayerHandle no[] = { -1, 0, 2, 5, 999, 1000, 1032 };
+    MUST(fazggpo_set_number(NULL, 1, 1) == GGPO_ERRORCODE_INVALID_SESSION);
+    begin(1, &by);
+    for (size_t at = 0; at < sizeof no / sizeof no[0]; at++)
+        MUST(fazggpo_set_number(game->session, no[at], 1) == GGPO_ERRORCODE_INVALID_PLAYER_HANDLE);
+    MUST(says("1032 is no player elsewhere, and no spectator"));
+    MUST(fazggpo_set_number(game->session, 1, 1) == GGPO_OK && fazggpo_set_number(game->session, 3, 2) == GGPO_OK);
+    MUST(ggpo_idle(game->session, 0) == GGPO_ERRORCODE_INVALID_REQUEST && says("the machine of player 3 was given two numbers"));
+    MUST(fazggpo_rejoin(game->session) == GGPO_ERRORCODE_UNSUPPORTED);
+    MUST(fazggpo_set_number(game->session, 3, 1) == GGPO_OK && ggpo_idle(game->session, 0) == GGPO_OK);
+    MUST(fazggpo_set_number(game->session, 3, 1) == GGPO_ERRORCODE_UNSUPPORTED);
+    MUST(fazggpo_set_wire(game->session, &(FazggpoWire){ game, on_send, on_receive }) == GGPO_ERRORCODE_UNSUPPORTED);
+    end(1);
+    begin(1, &lasts);
+    MUST(fazggpo_set_number(game->session, 1, 1) == GGPO_ERRORCODE_UNSUPPORTED);
+    MUST(says("a match into which players come back has one number for all pairs"));
+    end(1);
+    begin_viewer(&by);
+    MUST(fazggpo_set_number(game->session, 1, 1) == GGPO_ERRORCODE_INVALID_PLAYER_HANDLE);
+    end(VIEWER);
+}
+
+/* A wire that says what can't be: of nobody, of this machine, or longer than the room. */
+static bool receive_wrong(void *wire, GGPOPlayerHandle *from, unsigned char *bytes, int room, int *length) {
+    static const struct { GGPOPlayerHandle from; int length; } wrong[] = { { -1, 20 }, { 0, 20 }, { 2, 20 }, { 5, 20 }, { 999, 20 },
+        { 1000, 20 }, { 1, -1 }, { 1, 1 << 20 } };
+    size_t *next = wire;
+    MUST(room >= 20);
+    memset(bytes, 1, 20);
+    *from = wrong[*next % 8].from;
+    *length = wrong[*next % 8].length;
+    return ++*next % 64 != 0;
+}
+
+static void send_nowhere(void *wire, GGPOPlayerHandle to, const unsigned char *bytes, int length) {
+    MUST(wire != NULL && to != 2 && bytes != NULL && length > 0);
+}
+
+static void wrong_wire(void) {
+    way by = { .by_wire = true };
+    size_t next = 0;
+    begin(1, &by);
+    MUST(fazggpo_set_wire(game->session, &(FazggpoWire){ &next, send_nowhere, receive_wrong }) == GGPO_OK);
+    for (int turns = 0; turns < 20; turns++)
+        MUST(ggpo_idle(game->session, 16) == GGPO_OK);
+    MUST(next >= 20 * 64 && game->is_running == 0);
+    end(1);
+}
+
+int main(int count, char **words) {
+    way by_socket = { 0 }, by_socket_with_numbers = { .has_numbers = true };
+    MUST(count == 2);
+    port = atoi(words[1]);
+    plays(&by_socket);
+    plays(&by_socket_with_numbers);
+    plays_on_wire(false);
+    plays_on_wire(true);
+    comes_back();
+    strangers();
+    game = &games[0];
+    refused_wires();
+    refused_numbers();
+    wrong_wire();
+    return 0;
+}

@@ -1,0 +1,250 @@
+#include "broker.h"
+
+#include "../line/ice.h"
+#include "aside.h"
+
+#include <nats/nats.h>
+#include <stdio.h>
+#include <stdlib.h>
+#include <string.h>
+
+enum { SERVERS = 16, TEXT = 1024, HEARD = 3, KEPT = 256, KEPT_BYTES = 1 << 18 };
+
+/* Milliseconds. */
+enum { PATIENCE = 2000, AGAIN = 1000, RECONNECT = 200, PING = 2000, FLUSH = 150, LAST = 200 };
+
+/* A connection that is being made, or closed. */
+typedef struct task {
+    char servers[TEXT], trusted[TEXT];
+    natsConnection *connection;
+    char why[BROKER_WHY];
+} task;
+
+struct broker {
+    task settings;
+    aside *making;
+    task *made; /* what `making` works with */
+    natsConnection *connection;
+    char subject[HEARD][BROKER_SUBJECT];
+    natsSubscription *heard[HEARD];
+    bool has_turned, is_wanted; /* a connection, in the place of the one that there is */
+    uint32_t now, again_at;
+    char why[BROKER_WHY];
+};
+
+/* What the broker refuses is asked for by natsConnection_GetLastError. */
+static void on_error(natsConnection *connection, natsSubscription *subscription, natsStatus why, void *closure) {
+    (void)connection, (void)subscription, (void)why, (void)closure;
+}
+
+static natsStatus set_servers(natsOptions *options, char *text) {
+    const char *servers[SERVERS];
+    int count = 0;
+    for (char *rest = NULL, *at = strtok_r(text, ",", &rest); at != NULL && count < SERVERS; at = strtok_r(NULL, ",", &rest))
+        servers[count++] = at;
+    return natsOptions_SetServers(options, servers, count);
+}
+
+static natsStatus set_options(natsOptions *options, task *self) {
+    char servers[TEXT];
+    natsStatus status = set_servers(options, strcpy(servers, self->servers));
+    if (status == NATS_OK && strstr(self->servers, "tls://") != NULL)
+        status = natsOptions_SetSecure(options, true);
+    if (status == NATS_OK && self->trusted[0] != 0)
+        status = natsOptions_LoadCATrustedCertificates(options, self->trusted);
+    natsOptions_SetTimeout(options, PATIENCE);
+    natsOptions_SetMaxReconnect(options, -1);
+    natsOptions_SetReconnectWait(options, RECONNECT);
+    natsOptions_SetReconnectJitter(options, RECONNECT, RECONNECT);
+    natsOptions_SetReconnectBufSize(options, KEPT_BYTES);
+    natsOptions_SetPingInterval(options, PING);
+    natsOptions_SetMaxPingsOut(options, 2);
+    natsOptions_SetErrorHandler(options, on_error, NULL);
+    return status;
+}
+
+static void make(void *of) {
+    task *self = of;
+    natsOptions *options = NULL;
+    natsStatus status = natsOptions_Create(&options);
+    if (status == NATS_OK)
+        status = set_options(options, self);
+    if (status == NATS_OK)
+        status = natsConnection_Connect(&self->connection, options);
+    if (status != NATS_OK) {
+        const char *text = nats_GetLastError(NULL);
+        snprintf(self->why, BROKER_WHY, "%s", text != NULL && *text != 0 ? text : natsStatus_GetText(status));
+        self->connection = NULL;
+    }
+    natsOptions_Destroy(options);
+}
+
+static void drop(void *of) {
+    task *self = of;
+    natsConnection_Destroy(self->connection);
+    free(self);
+}
+
+static void finish(void *of) {
+    task *self = of;
+    natsConnection_FlushTimeout(self->connection, FLUSH);
+    natsConnection_Destroy(self->connection);
+    self->connection = NULL;
+}
+
+/* Has a connection closed beside the game. */
+static aside *finish_aside(natsConnection *connection) {
+    task *last = connection != NULL ? calloc(1, sizeof *last) : NULL;
+    if (last == NULL)
+        return NULL;
+    last->connection = connection;
+    aside *job = aside_begin(finish, drop, last);
+    if (job == NULL)
+        drop(last);
+    return job;
+}
+
+static bool is_server(const char *text) {
+    return strncmp(text, "nats://", 7) == 0 || strncmp(text, "tls://", 6) == 0;
+}
+
+broker *broker_open(const char *servers, const char *trusted, const char **why) {
+    if (servers == NULL || !is_server(servers) || strlen(servers) >= TEXT || (trusted != NULL && strlen(trusted) >= TEXT)) {
+        *why = "the broker's address is none: nats://ADDRESS:PORT was expected";
+        return NULL;
+    }
+    broker *self = calloc(1, sizeof *self);
+    if (self == NULL) {
+        *why = "there is no memory";
+        return NULL;
+    }
+    self->is_wanted = true;
+    strcpy(self->settings.servers, servers);
+    if (trusted != NULL)
+        strcpy(self->settings.trusted, trusted);
+    return self;
+}
+
+static void let_go(broker *self) {
+    for (int at = 0; at < HEARD; at++) {
+        natsSubscription_Destroy(self->heard[at]);
+        self->heard[at] = NULL;
+    }
+}
+
+void broker_close(broker *self) {
+    if (self == NULL)
+        return;
+    aside_leave(self->making);
+    let_go(self);
+    aside *last = finish_aside(self->connection);
+    for (int waited = 0; last != NULL && !aside_is_over(last) && waited < LAST; waited++)
+        ice_wait();
+    aside_leave(last);
+    free(self);
+}
+
+static void subscribe(broker *self, int at) {
+    if (self->connection == NULL || self->subject[at][0] == 0
+        || natsConnection_SubscribeSync(&self->heard[at], self->connection, self->subject[at]) != NATS_OK)
+        return;
+    natsSubscription_SetPendingLimits(self->heard[at], KEPT, KEPT_BYTES);
+}
+
+static void begin(broker *self) {
+    self->made = malloc(sizeof *self->made);
+    if (self->made == NULL)
+        return;
+    *self->made = self->settings;
+    self->making = aside_begin(make, drop, self->made);
+    if (self->making == NULL)
+        free(self->made);
+}
+
+/* A connection was made, or not. */
+static void take(broker *self) {
+    natsConnection *connection = self->made->connection;
+    memcpy(self->why, self->made->why, sizeof self->why);
+    free(self->made);
+    aside_take(self->making);
+    self->making = NULL;
+    self->again_at = self->now + AGAIN;
+    if (connection == NULL)
+        return;
+    let_go(self);
+    aside_leave(finish_aside(self->connection));
+    self->connection = connection;
+    self->is_wanted = false;
+    for (int at = 0; at < HEARD; at++)
+        subscribe(self, at);
+}
+
+void broker_turn(broker *self, uint32_t now) {
+    self->now = now;
+    if (!self->has_turned)
+        self->again_at = now;
+    self->has_turned = true;
+    if (self->making != NULL && aside_is_over(self->making))
+        take(self);
+    else if (self->making == NULL && self->is_wanted && (int32_t)(now - self->again_at) >= 0)
+        begin(self);
+}
+
+bool broker_is_there(const broker *self) {
+    return self->connection != NULL && natsConnection_Status(self->connection) == NATS_CONN_STATUS_CONNECTED;
+}
+
+const char *broker_why(const broker *self) {
+    return self->why[0] != 0 ? self->why : NULL;
+}
+
+void broker_renew(broker *self) {
+    self->is_wanted = true;
+    self->again_at = self->now;
+}
+
+void broker_hear(broker *self, int place, const char *subject) {
+    if (place < 0 || place >= HEARD || strlen(subject) >= BROKER_SUBJECT)
+        return;
+    natsSubscription_Destroy(self->heard[place]);
+    self->heard[place] = NULL;
+    strcpy(self->subject[place], subject);
+    subscribe(self, place);
+}
+
+bool broker_say(broker *self, const char *subject, const char *reply, const uint8_t *bytes, size_t length) {
+    if (!broker_is_there(self) || length >= BROKER_MESSAGE)
+        return false;
+    natsStatus status = reply != NULL ? natsConnection_PublishRequest(self->connection, subject, reply, bytes, (int)length)
+                                      : natsConnection_Publish(self->connection, subject, bytes, (int)length);
+    return status == NATS_OK;
+}
+
+/* False: it is longer than any of ours. */
+static bool copy(broker_message *to, const natsMsg *from) {
+    const char *reply = natsMsg_GetReply(from);
+    size_t length = (size_t)natsMsg_GetDataLength(from);
+    if (length >= BROKER_MESSAGE || (reply != NULL && strlen(reply) >= BROKER_SUBJECT))
+        return false;
+    to->is_nobody = false;
+    strcpy(to->reply, reply != NULL ? reply : "");
+    to->length = length;
+    memcpy(to->bytes, natsMsg_GetData(from), length);
+    return true;
+}
+
+bool broker_next(broker *self, broker_message *message) {
+    for (int at = 0; at < HEARD; at++) {
+        natsMsg *came = NULL;
+        natsStatus status = self->heard[at] != NULL ? natsSubscription_NextMsg(&came, self->heard[at], 0) : NATS_TIMEOUT;
+        bool is_one = status == NATS_OK && copy(message, came);
+        natsMsg_Destroy(came);
+        if (status == NATS_NO_RESPONDERS) {
+            *message = (broker_message){.is_nobody = true};
+            is_one = true;
+        }
+        if (is_one)
+            return true;
+    }
+    return false;
+}

@@ -1,0 +1,293 @@
+/* The host's side of a lobby. */
+#include "inside.h"
+
+#include <sodium.h>
+#include <stdio.h>
+#include <string.h>
+
+/* Milliseconds without anything of a guest, who asks every two seconds. */
+enum { GONE_AFTER = 10000 };
+
+/* ---- answers */
+
+static void say_answer(faz_lobby *self, guest *to, const answer *text) {
+    uint8_t message[BROKER_MESSAGE];
+    char subject[BROKER_SUBJECT];
+    inbox_subject(to->inbox, subject);
+    broker_say(self->broker, subject, NULL, message, answer_write(text, &to->pair, message));
+}
+
+/* Tells a guest how it stands. */
+static void tell(faz_lobby *self, guest *to) {
+    answer text = {.counter = ++to->answers, .what = WAITS};
+    strcpy(text.name, self->name);
+    if (to->stage == GUEST_REFUSED) {
+        text.what = REFUSED;
+        text.why = to->why;
+    } else if (to->stage == GUEST_SEATED && self->is_known) {
+        text.what = BEGINS;
+        text.table = self->table;
+        text.table.me = to->machine;
+        host_vouch(text.table.proof, self->hosting.secret, to->pair.theirs);
+    } else if (to->stage == GUEST_SEATED) {
+        text.what = SEATED;
+    }
+    say_answer(self, to, &text);
+}
+
+/* ---- seats */
+
+static uint32_t seats_left(const faz_lobby *self) {
+    uint32_t taken = self->here;
+    for (int at = 0; at < GUESTS; at++)
+        if (self->hosting.guest[at].stage == GUEST_SEATED)
+            taken += self->hosting.guest[at].here;
+    return self->is_known ? 0 : self->hosting.players - taken;
+}
+
+static void refuse(guest *one, faz_lobby_why why) {
+    one->stage = GUEST_REFUSED;
+    one->why = why;
+}
+
+static void seat(faz_lobby *self, guest *one) {
+    if (one->here > seats_left(self)) {
+        refuse(one, FAZ_LOBBY_NO_SEAT);
+        return;
+    }
+    one->stage = GUEST_SEATED;
+    faz_lobby_event *event = lobby_tell(self, FAZ_LOBBY_JOINED, FAZGROND_NO_MACHINE, one->name);
+    event->who = one->who;
+    pair_words(&one->pair, event->text);
+}
+
+void host_note_gone(faz_lobby *self, const uint8_t open[KEY]) {
+    memcpy(self->hosting.gone[self->hosting.gones++ % GUESTS], open, KEY);
+}
+
+bool host_is_gone(const faz_lobby *self, const uint8_t open[KEY]) {
+    for (int at = 0; at < GUESTS; at++)
+        if (memcmp(self->hosting.gone[at], open, KEY) == 0)
+            return true;
+    return false;
+}
+
+/* Forgets a guest, but for its key: what it has said may be said again by others. */
+static void forget(faz_lobby *self, guest *one) {
+    if (one->stage == GUEST_SEATED || one->stage == GUEST_ASKS)
+        lobby_tell(self, FAZ_LOBBY_LEFT, FAZGROND_NO_MACHINE, one->name)->who = one->who;
+    host_note_gone(self, one->pair.theirs);
+    sodium_memzero(one, sizeof *one);
+}
+
+/* ---- the table */
+
+static void place(faz_lobby *self, const uint8_t *open, const uint8_t *inbox, const char *name, uint32_t players) {
+    table *to = &self->table;
+    member *one = &to->member[to->machines];
+    memcpy(one->open, open, KEY);
+    memcpy(one->inbox, inbox, INBOX);
+    strcpy(one->name, name);
+    for (uint32_t at = 0; at < players; at++)
+        to->owners[to->players++] = to->machines;
+    to->machines++;
+}
+
+/* Machines are numbered by the places of their guests. */
+static void lay_table(faz_lobby *self) {
+    table *to = &self->table;
+    for (int at = 0; at < FAZGROND_PLAYERS; at++)
+        to->owners[at] = FAZGROND_NO_PLAYER;
+    randombytes_buf(&to->number, sizeof to->number);
+    randombytes_buf(to->key, KEY);
+    to->lasts = self->lasts;
+    to->asks = self->hosting.asks;
+    memcpy(to->host, self->hosting.open, KEY);
+    code_of(to->code, to->host);
+    host_vouch(to->proof, self->hosting.secret, self->keys.open);
+    place(self, self->keys.open, self->inbox, self->name, self->here);
+    for (int at = 0; at < GUESTS; at++) {
+        guest *one = &self->hosting.guest[at];
+        if (one->stage != GUEST_SEATED)
+            continue;
+        one->machine = to->machines;
+        place(self, one->pair.theirs, one->inbox, one->name, one->here);
+    }
+    mesh_open(self);
+    for (int at = 0; at < GUESTS; at++)
+        if (self->hosting.guest[at].stage == GUEST_SEATED)
+            tell(self, &self->hosting.guest[at]);
+}
+
+static void look_at_seats(faz_lobby *self) {
+    if (!self->is_known && seats_left(self) == 0)
+        lay_table(self);
+}
+
+bool faz_lobby_begin(faz_lobby *self) {
+    if (!self->is_host || self->is_known || self->is_over || seats_left(self) + self->here == self->hosting.players)
+        return false;
+    lay_table(self);
+    return true;
+}
+
+bool faz_lobby_let_in(faz_lobby *self, uint32_t who, bool yes) {
+    if (self->is_known)
+        return late_let_in(self, who, yes);
+    for (int at = 0; at < GUESTS && self->is_host; at++) {
+        guest *one = &self->hosting.guest[at];
+        if (one->stage != GUEST_ASKS || one->who != who)
+            continue;
+        if (yes)
+            seat(self, one);
+        else
+            refuse(one, FAZ_LOBBY_NOT_LET_IN);
+        tell(self, one);
+        look_at_seats(self);
+        return yes == (one->stage == GUEST_SEATED);
+    }
+    return false;
+}
+
+/* ---- what guests say */
+
+size_t host_offer(const faz_lobby *self, const room *in, uint8_t out[BROKER_MESSAGE]) {
+    offer ours = {.version = LOBBY_VERSION};
+    memcpy(ours.host, self->hosting.open, KEY);
+    memcpy(ours.speaks, self->keys.open, KEY);
+    memcpy(ours.inbox, self->inbox, INBOX);
+    host_vouch(ours.proof, self->hosting.secret, ours.speaks);
+    return offer_write(&ours, in, out);
+}
+
+static void hear_hello(faz_lobby *self, const broker_message *message, const uint8_t inbox[INBOX]) {
+    uint8_t out[BROKER_MESSAGE];
+    char subject[BROKER_SUBJECT];
+    hello came;
+    if (self->hosting.has_short_code || !hello_read(&came, &self->room, message->bytes, message->length))
+        return;
+    inbox_subject(inbox, subject);
+    broker_say(self->broker, subject, NULL, out, host_offer(self, &self->room, out));
+}
+
+/* By which room's key somebody asks, and whose key it names; null if by none. */
+static const room *room_of_ask(const faz_lobby *self, uint8_t open[KEY], const broker_message *message) {
+    const hosting *hosts = &self->hosting;
+    if (!hosts->has_short_code)
+        return ask_open(open, &self->room, message->bytes, message->length) ? &self->room : NULL;
+    for (int at = 0; at < GUESTS; at++)
+        if (hosts->guest[at].stage != GUEST_NONE && ask_open(open, &hosts->guest[at].room, message->bytes, message->length))
+            return &hosts->guest[at].room;
+    for (int at = 0; at < KNOCKERS; at++)
+        if (hosts->knocker[at].is_proven && ask_open(open, &hosts->knocker[at].room, message->bytes, message->length))
+            return &hosts->knocker[at].room;
+    return NULL;
+}
+
+/* The guest who has this key, or a free place for one; null if there is none. */
+static guest *guest_of(faz_lobby *self, const uint8_t open[KEY]) {
+    guest *free = NULL;
+    for (int at = GUESTS - 1; at >= 0; at--) {
+        guest *one = &self->hosting.guest[at];
+        if (one->stage == GUEST_NONE)
+            free = one;
+        else if (memcmp(one->pair.theirs, open, KEY) == 0)
+            return one;
+    }
+    return free;
+}
+
+/* Somebody asks for the first time. */
+static void take_in(faz_lobby *self, guest *one) {
+    one->who = ++self->hosting.named;
+    if (one->here > seats_left(self)) {
+        refuse(one, FAZ_LOBBY_NO_SEAT);
+    } else if (!self->hosting.asks) {
+        seat(self, one);
+    } else {
+        one->stage = GUEST_ASKS;
+        faz_lobby_event *event = lobby_tell(self, FAZ_LOBBY_ASKS, FAZGROND_NO_MACHINE, one->name);
+        event->who = one->who;
+        pair_words(&one->pair, event->text);
+    }
+}
+
+static void note_ask(faz_lobby *self, guest *one, const ask *came) {
+    one->counter = came->counter;
+    one->heard_at = self->now;
+    if (one->stage != GUEST_NONE)
+        return;
+    one->here = came->here;
+    strcpy(one->name, came->name);
+    if (came->digest != self->digest) {
+        one->who = ++self->hosting.named;
+        refuse(one, FAZ_LOBBY_OTHER_GAME);
+    } else {
+        take_in(self, one);
+    }
+}
+
+/* What a guest says now; false if nobody has said so, or it is an old message. */
+static bool read_ask(faz_lobby *self, guest *one, const room *in, const uint8_t open[KEY], const broker_message *message,
+                     ask *came) {
+    bool is_new = one->stage == GUEST_NONE;
+    if (is_new && !pair_of(&one->pair, in, self->keys.open, self->keys.secret, open))
+        return false;
+    return ask_read(came, in, &one->pair, message->bytes, message->length) && (is_new || came->counter > one->counter);
+}
+
+static void hear_ask(faz_lobby *self, const broker_message *message, const uint8_t inbox[INBOX]) {
+    uint8_t open[KEY];
+    ask came;
+    const room *in = room_of_ask(self, open, message);
+    guest *one = in != NULL && !host_is_gone(self, open) ? guest_of(self, open) : NULL;
+    if (one == NULL || !read_ask(self, one, in, open, message, &came))
+        return;
+    bool is_new = one->stage == GUEST_NONE;
+    if (came.leaves && (is_new || (self->is_known && one->stage == GUEST_SEATED)))
+        return;
+    if (is_new) {
+        one->room = *in;
+        memcpy(one->inbox, inbox, INBOX);
+    }
+    note_ask(self, one, &came);
+    if (came.leaves) {
+        forget(self, one);
+        return;
+    }
+    tell(self, one);
+    look_at_seats(self);
+}
+
+void host_hear(faz_lobby *self, const broker_message *message) {
+    uint8_t inbox[INBOX];
+    if (message->length == 0 || !inbox_read(message->reply, inbox))
+        return;
+    if (message->bytes[0] == KNOCK && self->hosting.has_short_code && (!self->is_ready || self->table.lasts))
+        knock_hear(self, message, inbox);
+    else if (message->bytes[0] == HELLO)
+        hear_hello(self, message, inbox);
+    else if (message->bytes[0] == ASK)
+        hear_ask(self, message, inbox);
+}
+
+/* Who is in the match stays in it: its line says whether it is there. */
+void host_turn(faz_lobby *self) {
+    knock_turn(self);
+    for (int at = 0; at < GUESTS; at++) {
+        guest *one = &self->hosting.guest[at];
+        bool is_in = one->stage == GUEST_SEATED && self->is_known;
+        if (one->stage != GUEST_NONE && !is_in && lobby_since(self, one->heard_at) >= GONE_AFTER)
+            forget(self, one);
+    }
+}
+
+void host_close(faz_lobby *self) {
+    for (int at = 0; at < GUESTS; at++) {
+        guest *one = &self->hosting.guest[at];
+        if (one->stage != GUEST_ASKS && one->stage != GUEST_SEATED)
+            continue;
+        refuse(one, FAZ_LOBBY_HOST_LEFT);
+        tell(self, one);
+    }
+}

@@ -1,0 +1,144 @@
+/* Short codes, at the host: who knocks shows that it knows the code before anything else is said. */
+#include "inside.h"
+
+#include <sodium.h>
+#include <string.h>
+
+/* Milliseconds in which who knocks has to show that it knows the code, and then to ask. */
+enum { SHOWN_WITHIN = 5000, ASKED_WITHIN = 10000 };
+
+/* So many wrong tries a code bears: one of 200,000 guesses it. */
+enum { WRONG_TRIES = 5 };
+
+static void drop(knocker *one) {
+    pake_close(one->pake);
+    sodium_memzero(one, sizeof *one);
+}
+
+/* Another name under which this host is heard, and another secret; the door is asked for a plate. */
+void knock_begin(faz_lobby *self) {
+    hosting *hosts = &self->hosting;
+    for (int at = 0; at < KNOCKERS; at++)
+        if (!hosts->knocker[at].is_proven)
+            drop(&hosts->knocker[at]);
+    hosts->wrong = 0;
+    hosts->plate[0] = 0;
+    short_draw(hosts->secret_signs);
+    self->door.request.plate[0] = 0;
+    randombytes_buf(self->door.request.token, DOOR_TOKEN);
+    self->door.is_answered = self->door.has_said = false;
+    room_named(&self->room, self->door.request.token);
+    room_subject(&self->room, self->room_name);
+    broker_hear(self->broker, 1, self->room_name);
+}
+
+void knock_plate(faz_lobby *self, const char plate[PLATE_TEXT]) {
+    hosting *hosts = &self->hosting;
+    if (strcmp(hosts->plate, plate) == 0)
+        return;
+    lobby_copy(hosts->plate, sizeof hosts->plate, plate);
+    lobby_copy(self->door.request.plate, sizeof self->door.request.plate, plate);
+    short_write(hosts->plate, hosts->secret_signs, lobby_tell(self, FAZ_LOBBY_CODE, 0, self->name)->text);
+}
+
+/* In a match that runs there is no short code any more after the last try: the long one stays. */
+static void note_wrong(faz_lobby *self) {
+    self->hosting.wrong++;
+    if (self->hosting.wrong < WRONG_TRIES)
+        return;
+    if (!self->is_known) {
+        knock_begin(self);
+    } else {
+        self->hosting.plate[0] = 0;
+        self->door.request.kind = DOOR_RELAYS;
+    }
+}
+
+/* The one with this id; or a free place for one that begins; or null. */
+static knocker *knocker_of(faz_lobby *self, const knock *came) {
+    knocker *free = NULL;
+    for (int at = 0; at < KNOCKERS; at++) {
+        knocker *one = &self->hosting.knocker[at];
+        if (one->is_there && memcmp(one->id, came->id, INBOX) == 0)
+            return one;
+        if (!one->is_there)
+            free = one;
+    }
+    return came->step == 1 ? free : NULL;
+}
+
+static bool begin(faz_lobby *self, knocker *one, const knock *came) {
+    one->pake = pake_open(true, self->hosting.plate, self->hosting.secret_signs);
+    one->is_there = one->pake != NULL;
+    one->begun_at = self->now;
+    memcpy(one->id, came->id, INBOX);
+    return one->is_there;
+}
+
+/* It has shown that it knows the code: what it is told from now on is sealed by the key that both have. */
+static size_t prove(faz_lobby *self, knocker *one, size_t length) {
+    uint8_t text[BROKER_MESSAGE];
+    one->is_proven = true;
+    one->begun_at = self->now;
+    pake_key(one->pake, one->room.key);
+    size_t more = host_offer(self, &one->room, text);
+    if (length + more >= BROKER_MESSAGE)
+        return length;
+    memcpy(one->said + length, text, more);
+    return length + more;
+}
+
+static void reply(faz_lobby *self, knocker *one, const knock *came, const char *subject) {
+    knock text = {.step = came->step};
+    memcpy(text.id, one->id, INBOX);
+    pake_answer now = pake_turn(one->pake, came->bytes, came->length, text.bytes, &text.length);
+    self->hosting.has_worked = true;
+    text.is_wrong = now == PAKE_WRONG;
+    one->step = came->step;
+    one->length = knock_write(&text, KNOCKED, one->said);
+    if (now == PAKE_DONE)
+        one->length = prove(self, one, one->length);
+    broker_say(self->broker, subject, NULL, one->said, one->length);
+    if (now != PAKE_WRONG)
+        return;
+    drop(one);
+    note_wrong(self);
+}
+
+void knock_hear(faz_lobby *self, const broker_message *message, const uint8_t inbox[INBOX]) {
+    knock came;
+    size_t more;
+    char subject[BROKER_SUBJECT];
+    if (self->hosting.plate[0] == 0 || !knock_read(&came, KNOCK, message->bytes, message->length, &more))
+        return;
+    knocker *one = knocker_of(self, &came);
+    bool is_said = one != NULL && one->is_there && came.step == one->step;
+    if (self->hosting.has_worked && !is_said)
+        return; /* a proof takes some milliseconds, so there is one in a turn: others ask again */
+    if (one == NULL || (!one->is_there && !begin(self, one, &came)))
+        return;
+    inbox_subject(inbox, subject);
+    if (is_said)
+        broker_say(self->broker, subject, NULL, one->said, one->length);
+    else if (came.step == one->step + 1 && !one->is_proven)
+        reply(self, one, &came, subject);
+}
+
+/* Who doesn't show that it knows the code has had its try. */
+void knock_turn(faz_lobby *self) {
+    self->hosting.has_worked = false;
+    for (int at = 0; at < KNOCKERS; at++) {
+        knocker *one = &self->hosting.knocker[at];
+        if (!one->is_there || lobby_since(self, one->begun_at) < (one->is_proven ? ASKED_WITHIN : SHOWN_WITHIN))
+            continue;
+        bool is_proven = one->is_proven;
+        drop(one);
+        if (!is_proven)
+            note_wrong(self);
+    }
+}
+
+void knock_close(faz_lobby *self) {
+    for (int at = 0; at < KNOCKERS; at++)
+        drop(&self->hosting.knocker[at]);
+}

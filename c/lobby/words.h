@@ -1,0 +1,33 @@
+/* What a command line says of a lobby, and what a lobby tells, in words: for programs that a player begins at a terminal. */
+#ifndef FAZ_LOBBY_WORDS_H
+#define FAZ_LOBBY_WORDS_H
+
+#include "lobby.h"
+
+enum { LOBBY_WORDS_ROOM = 320, LOBBY_WORDS_PORT = 3478 /* of a STUN or TURN server, if none is named */ };
+
+/* What was said; null or false if nothing was. `broker` has to be. */
+typedef struct lobby_words {
+    const char *broker;    /* --broker URL */
+    const char *trusted;   /* --trusted FILE: certificates */
+    const char *stun;      /* --stun ADDRESS[:PORT] */
+    const char *relay;     /* --relay USER:PASSWORD@ADDRESS[:PORT] */
+    const char *tcp_relay; /* --tcp-relay: the same, asked by TCP */
+    const char *name;      /* --name NAME */
+    bool relay_only;       /* --relay-only */
+    bool asks;             /* --ask */
+    bool lasts;            /* --rejoin, or what the program calls it */
+    bool by_door;          /* --door: short codes, and relays if none are named */
+    char texts[3][LOBBY_WORDS_ROOM]; /* what settings point at */
+} lobby_words;
+
+/* Settings of what was said, as long as `words` is there. Null, or what can't be read. */
+const char *lobby_words_read(lobby_words *words, faz_lobby_settings *settings);
+
+/* Lets in who waits for this player's answer, or not, if the player has written y or n at the terminal. Who still waits; 0:
+ * nobody. */
+uint32_t lobby_words_let_in(faz_lobby *lobby, uint32_t who);
+
+/* An event in words; an empty text if a player needs none. */
+void lobby_words_of(const faz_lobby_event *event, char *out, size_t room);
+#endif

@@ -1,0 +1,42 @@
+/* A match whose machines meet by a code, and send over the lines of a lobby (docs/ONLINE.md). Without RETRO_ONLINE there is none,
+ * and neither the NATS library nor libnice is needed. */
+#ifndef RETRO_ONLINE_H
+#define RETRO_ONLINE_H
+
+#include "meet.h"
+
+#include <stdio.h>
+
+/* What the command line says. */
+typedef struct online_wish {
+    const char *code; /* who hosts has none, and is told one */
+    const char *broker, *trusted, *stun, *relay, *tcp_relay, *name;
+    bool relay_only, asks, by_door;
+    uint32_t machines; /* how many the host waits for, those that watch among them */
+} online_wish;
+
+typedef enum online_stage { ONLINE_WAITS, ONLINE_READY, ONLINE_OVER } online_stage;
+
+#ifdef RETRO_ONLINE
+/* Opens the lobby. False if it can't, and why is said. */
+bool online_open(const online_wish *wish);
+/* While it isn't ready: once a turn. What happens is said. */
+online_stage online_turn(void);
+/* What it waits for, in words. */
+const char *online_text(void);
+/* Once it is ready: the meeting and its match go over the lines, and by a key that these machines alone have. */
+void online_take(net *over, meeting *with);
+/* Null is no lobby. */
+void online_close(void);
+#else
+static inline bool online_open(const online_wish *wish) {
+    (void)wish;
+    fputs("faz-retro was built without libnats-dev, libnice-dev and libsodium-dev: it has no codes\n", stderr);
+    return false;
+}
+static inline online_stage online_turn(void) { return ONLINE_OVER; }
+static inline const char *online_text(void) { return ""; }
+static inline void online_take(net *over, meeting *with) { (void)over, (void)with; }
+static inline void online_close(void) {}
+#endif
+#endif
