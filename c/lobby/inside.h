@@ -57,7 +57,7 @@ enum { KNOCKERS = 8 };
 typedef struct hosting {
     uint8_t open[KEY], secret[SECRET];
     uint32_t players;
-    bool asks, has_short_code;
+    bool asks, has_short_code, has_worked; /* in this turn */
     char plate[PLATE_TEXT], secret_signs[SHORT_SECRET];
     knocker knocker[KNOCKERS];
     uint32_t wrong; /* tries at this code */

@@ -41,10 +41,17 @@ void knock_plate(faz_lobby *self, const char plate[PLATE_TEXT]) {
     short_write(hosts->plate, hosts->secret_signs, lobby_tell(self, FAZ_LOBBY_CODE, 0, self->name)->text);
 }
 
+/* In a match that runs there is no short code any more after the last try: the long one stays. */
 static void note_wrong(faz_lobby *self) {
     self->hosting.wrong++;
-    if (self->hosting.wrong >= WRONG_TRIES && !self->is_known)
+    if (self->hosting.wrong < WRONG_TRIES)
+        return;
+    if (!self->is_known) {
         knock_begin(self);
+    } else {
+        self->hosting.plate[0] = 0;
+        self->door.request.kind = DOOR_RELAYS;
+    }
 }
 
 /* The one with this id; or a free place for one that begins; or null. */
@@ -85,6 +92,7 @@ static void reply(faz_lobby *self, knocker *one, const knock *came, const char *
     knock text = {.step = came->step};
     memcpy(text.id, one->id, INBOX);
     pake_answer now = pake_turn(one->pake, came->bytes, came->length, text.bytes, &text.length);
+    self->hosting.has_worked = true;
     text.is_wrong = now == PAKE_WRONG;
     one->step = came->step;
     one->length = knock_write(&text, KNOCKED, one->said);
@@ -104,10 +112,13 @@ void knock_hear(faz_lobby *self, const broker_message *message, const uint8_t in
     if (self->hosting.plate[0] == 0 || !knock_read(&came, KNOCK, message->bytes, message->length, &more))
         return;
     knocker *one = knocker_of(self, &came);
+    bool is_said = one != NULL && one->is_there && came.step == one->step;
+    if (self->hosting.has_worked && !is_said)
+        return; /* a proof takes some milliseconds, so there is one in a turn: others ask again */
     if (one == NULL || (!one->is_there && !begin(self, one, &came)))
         return;
     inbox_subject(inbox, subject);
-    if (came.step == one->step)
+    if (is_said)
         broker_say(self->broker, subject, NULL, one->said, one->length);
     else if (came.step == one->step + 1 && !one->is_proven)
         reply(self, one, &came, subject);
@@ -115,6 +126,7 @@ void knock_hear(faz_lobby *self, const broker_message *message, const uint8_t in
 
 /* Who doesn't show that it knows the code has had its try. */
 void knock_turn(faz_lobby *self) {
+    self->hosting.has_worked = false;
     for (int at = 0; at < KNOCKERS; at++) {
         knocker *one = &self->hosting.knocker[at];
         if (!one->is_there || lobby_since(self, one->begun_at) < (one->is_proven ? ASKED_WITHIN : SHOWN_WITHIN))

@@ -472,7 +472,8 @@ static void test_settings(void) {
 
 static void open_short(uint32_t players) {
     const char *why = NULL;
-    faz_lobby_settings settings = {.broker = self.url, .name = "Ann", .digest = 7, .players = players, .short_code = true};
+    faz_lobby_settings settings = {.broker = self.url, .name = "Ann", .digest = 7, .players = players, .short_code = true,
+                                   .lasts = self.lasts};
     memset(self.told, 0, sizeof self.told);
     self.lobby[0] = faz_lobby_host(&settings, &why);
     check(self.lobby[0] != NULL && is_told(0, FAZ_LOBBY_CODE, 1), "a host with a short code");
@@ -540,6 +541,23 @@ static void test_burnt(void) {
     forget();
 }
 
+/* In a match that lasts a short code bears as many tries, and then there is none. */
+static void test_no_more_tries(void) {
+    self.lasts = true;
+    open_short(2);
+    let_in(1);
+    check(comes_to(0, FAZ_LOBBY_READY) && comes_to(1, FAZ_LOBBY_READY), "the match runs");
+    for (int times = 0; times < 5; times++)
+        check(try_wrong() == FAZ_LOBBY_WRONG_CODE, "a wrong code is known as such");
+    open_friend(2);
+    run(2000);
+    check(self.told[0][FAZ_LOBBY_CODE] == 1 && self.told[0][FAZ_LOBBY_ASKS] == 1, "the code is no more");
+    check(faz_lobby_stage_of(self.lobby[2]) == FAZ_LOBBY_MEETING, "who has it isn't answered");
+    self.lasts = false;
+    close_all();
+    forget();
+}
+
 /* Who never shows that it knows the code has had its try; what is said again, or is junk, does nothing. */
 static void test_knocks(void) {
     uint8_t message[BROKER_MESSAGE];
@@ -551,6 +569,7 @@ static void test_knocks(void) {
         pake_turn(one, NULL, 0, text.bytes, &text.length);
         pake_close(one);
         say(self.lobby[0]->room_name, "faz.in.0123456789abcdef0123456789abcdef", message, knock_write(&text, KNOCK, message));
+        run(100);
     }
     run(300);
     self.skipped += 6000;
@@ -615,7 +634,7 @@ int main(int count, char **words) {
         {"refusals", test_refusals}, {"host leaves", test_host_leaves},
         {"false news", test_false_news}};
     static const test shorts[] = {
-        {"wrong tries", test_wrong_tries}, {"burnt", test_burnt}, {"knocks", test_knocks}, {"no plate", test_no_plate}};
+        {"wrong tries", test_wrong_tries}, {"burnt", test_burnt}, {"no more tries", test_no_more_tries}, {"knocks", test_knocks}, {"no plate", test_no_plate}};
     bool are_short = count == 3 && strcmp(words[2], "short") == 0;
     if (count != 2 && !are_short)
         return 2;
