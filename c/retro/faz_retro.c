@@ -40,6 +40,7 @@ static const char usage[] =
     "  --hold N         words that come late wait for up to N turns while a helper plays their frames again (2 or more, as the\n"
     "                   check found it right; without helpers 0)\n"
     "  --rejoin         who has left comes back with the same words; all say it, also who watches, and who joins names its --port\n"
+    "                   with a code there is no --port, and who has left comes back by --join and the code that is told last\n"
     "  --port N         the port of who joins or watches (any)\n"
     "  --timeout MS     a machine that is silent so long is gone (5000)\n"
     "  --headless       no window; --bot SEED plays by itself; --frames N ends then; --digests FILE has those of all frames\n"
@@ -49,7 +50,7 @@ static const char usage[] =
     "  --unchecked      plays on a core that was found unfit\n"
     "  --verbose        what the core says about errors is shown\n";
 
-enum { MOST_AHEAD = 15 };
+enum { MOST_AHEAD = 15, NO_PORT = 1 /* of who hosts by a code: none is opened */ };
 
 static struct {
     recipe from;
@@ -162,15 +163,14 @@ static bool take_verdict(void) {
 static const char *no_rejoin(void) {
     return !CAN_LAST ? "the library of this program is too old for --rejoin"
         : self.host == 0 && self.join == NULL && self.watch == NULL ? "--rejoin is said with --host, --join or --watch"
-        : self.join != NULL && self.port == 0 ? "--rejoin needs --port N: the same when this machine comes back"
+        : self.join != NULL && self.port == 0 && !self.by_code ? "--rejoin needs --port N: the same when this machine comes back"
         : self.helpers > 0 || self.hold > 0 ? "with --rejoin no helper plays ahead, and no word is held back"
         : self.wish.picture != NULL ? "a match with --rejoin has no picture" : NULL;
 }
 
 /* Why what was said doesn't go with a code; null if it does. */
 static const char *no_code(void) {
-    return self.lasts ? "who has left can't come back by a code: --rejoin goes with addresses"
-        : self.key != NULL ? "with a code there is no --key, as the code keeps others out"
+    return self.key != NULL ? "with a code there is no --key, as the code keeps others out"
         : self.machines + self.viewers > FAZGROND_MACHINES ? "by a code eight machines meet at most, those that watch among them" : NULL;
 }
 
@@ -360,6 +360,7 @@ static bool open_by_code(void) {
     online_stage stage = ONLINE_WAITS;
     self.online.code = self.watch != NULL ? self.watch : self.join;
     self.online.broker = self.wish.broker;
+    self.online.lasts = self.lasts;
     self.online.machines = (uint32_t)(self.machines + self.viewers);
     if (!online_open(&self.online))
         return false;
@@ -368,8 +369,8 @@ static bool open_by_code(void) {
         show_waiting(online_text());
         net_rest(&self.net, 5000);
     }
-    if (stage == ONLINE_READY)
-        online_take(&self.net, &self.meeting);
+    if (stage == ONLINE_READY && online_take(&self.net, &self.meeting))
+        self.host = NO_PORT;
     return stage == ONLINE_READY;
 }
 
@@ -484,7 +485,7 @@ static int take_host(int count, char **words) {
         return count;
     memmove(&words[at], &words[at + 1], (size_t)(count - at) * sizeof *words);
     self.by_code = true;
-    self.host = 1; /* a port that isn't opened */
+    self.host = NO_PORT;
     return count - 1;
 }
 

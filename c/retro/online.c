@@ -42,7 +42,7 @@ bool online_open(const online_wish *wish) {
     faz_lobby_settings settings = { .digest = DIGEST, .players = wish->machines, .any_sender = true };
     self.words = (lobby_words){ .broker = wish->broker, .trusted = wish->trusted, .stun = wish->stun, .relay = wish->relay,
                                 .tcp_relay = wish->tcp_relay, .name = wish->name, .relay_only = wish->relay_only,
-                                .asks = wish->asks, .by_door = wish->by_door };
+                                .asks = wish->asks, .by_door = wish->by_door, .lasts = wish->lasts };
     const char *why = lobby_words_read(&self.words, &settings);
     if (why == NULL)
         self.lobby = wish->code != NULL ? faz_lobby_join(&settings, wish->code, &why) : faz_lobby_host(&settings, &why);
@@ -91,13 +91,16 @@ static long next_of_lines(address *from, uint8_t *bytes, size_t room) {
 
 static const net_wire lines = { turn, send_by_line, next_of_lines };
 
-void online_take(net *over, meeting *with) {
+bool online_take(net *over, meeting *with) {
     faz_lobby_match match;
     (void)faz_lobby_get_match(self.lobby, &match);
+    if (match.code[0] != 0)
+        fprintf(stderr, "whoever stops comes back by --join %s\n", match.code);
     net_open_wire(over, &lines);
     with->host = address_of(0);
     with->has_key = true;
     with->key = match.number;
+    return match.me == 0;
 }
 
 void online_close(void) {

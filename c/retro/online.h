@@ -11,7 +11,7 @@
 typedef struct online_wish {
     const char *code; /* who hosts has none, and is told one */
     const char *broker, *trusted, *stun, *relay, *tcp_relay, *name;
-    bool relay_only, asks, by_door;
+    bool relay_only, asks, by_door, lasts;
     uint32_t machines; /* how many the host waits for, those that watch among them */
 } online_wish;
 
@@ -24,8 +24,9 @@ bool online_open(const online_wish *wish);
 online_stage online_turn(void);
 /* What it waits for, in words. */
 const char *online_text(void);
-/* Once it is ready: the meeting and its match go over the lines, and by a key that these machines alone have. */
-void online_take(net *over, meeting *with);
+/* Once it is ready: the meeting and its match go over the lines, and by a key that these machines alone have. Whether this machine hosts,
+ * as one does that has hosted and comes back. */
+bool online_take(net *over, meeting *with);
 /* Null is no lobby. */
 void online_close(void);
 #else
@@ -36,7 +37,7 @@ static inline bool online_open(const online_wish *wish) {
 }
 static inline online_stage online_turn(void) { return ONLINE_OVER; }
 static inline const char *online_text(void) { return ""; }
-static inline void online_take(net *over, meeting *with) { (void)over, (void)with; }
+static inline bool online_take(net *over, meeting *with) { return (void)over, (void)with, false; }
 static inline void online_close(void) {}
 #endif
 #endif

@@ -28,6 +28,8 @@ static const char usage[] =
     "  --stun ADDRESS[:PORT]    a STUN server: over the internet there has to be one\n"
     "  --relay USER:PASSWORD@ADDRESS[:PORT], --tcp-relay ..    a TURN server, for where no direct way is\n"
     "  --relay-only     the others don't see this machine's address\n"
+    "  --rejoin         all say it: if this program stops, it is begun again by --join and the code that it tells then, and the\n"
+    "                   games go on. Who has that code comes in the place of a machine that is silent\n"
     "  --trusted FILE   the certificates by which the broker is believed\n";
 
 /* Keeps machines of another program out. */
@@ -137,6 +139,8 @@ static bool open_friends(void) {
     for (uint32_t machine = 0; machine < self.match.machines; machine++)
         if (machine != self.match.me && !open_friend(machine))
             return false;
+    if (self.match.code[0] != 0)
+        printf("whoever stops comes back by --join %s\n", self.match.code);
     fflush(stdout);
     return true;
 }
@@ -212,7 +216,7 @@ static const option options[] = {
     { "--stun", NULL, &self.words.stun, NULL },        { "--relay", NULL, &self.words.relay, NULL },
     { "--tcp-relay", NULL, &self.words.tcp_relay, NULL }, { "--name", NULL, &self.words.name, NULL },
     { "--relay-only", NULL, NULL, &self.words.relay_only }, { "--ask", NULL, NULL, &self.words.asks },
-    { "--door", NULL, NULL, &self.words.by_door },
+    { "--door", NULL, NULL, &self.words.by_door },     { "--rejoin", NULL, NULL, &self.words.lasts },
     { NULL, NULL, NULL, NULL },
 };
 
