@@ -657,6 +657,56 @@ static void watches(uint32_t machines, uint32_t seams) {
     agree(&all[0], &all[at]);
 }
 
+/* Place `at` watches place 0, from some frame of the match on. */
+static void begin_to_watch(uint32_t at, uint32_t before) {
+    run(before);
+    begin_to_come(at);
+    all[at].comer.machines = 1;
+    run(100);
+    IS(all[at].mode, COMES);
+    IS(all[at].settled + 30 > all[0].settled, true);
+}
+
+/* Two seams, so many turns apart: who watches goes on from the state there if it has to, and doesn't stand still for long. */
+static void watches_two_seams(uint32_t apart, uint32_t loss) {
+    terms of = terms_for(2);
+    fazgrond_mark mark = fazgrond_mark_for();
+    of.loss = loss;
+    begin(of);
+    begin_to_watch(2, 100);
+    OK(fazgrond_peer_mark(&all[0].peer, &all[0].session, 1, &mark));
+    for (uint32_t seams = all[0].epochs; all[0].epochs == seams;)
+        run(1);
+    run(apart);
+    OK(fazgrond_peer_mark(&all[0].peer, &all[0].session, 1, &mark));
+    run(100);
+    IS(all[0].epochs >= 2, true);
+    IS(all[2].settled + 40 > all[0].settled, true);
+    all_play(2);
+    agree(&all[0], &all[2]);
+}
+
+/* A player comes back, which takes two seams, and its machine has nobody beside it at the first one. Who watches is shown all frames. */
+static void watches_who_comes_back(uint32_t after, uint32_t loss) {
+    terms of = terms_for(2);
+    of.loss = loss;
+    of.size = 1000;
+    begin(of);
+    begin_to_watch(2, 100);
+    uint64_t from = all[2].from;
+    run(400);
+    stop(1);
+    run(after);
+    begin_to_come(1);
+    (void)turns_to_come(1, 1000);
+    run(100);
+    all_play(2);
+    IS(all[0].epochs >= 2, true);
+    IS(all[2].from, from);
+    IS(all[2].settled + 40 > all[0].settled, true);
+    agree(&all[0], &all[2]);
+}
+
 /* Who watches becomes a player, once all know it. */
 static void plays_after_all(uint32_t machines, uint32_t watched) {
     terms of = terms_for(machines);
@@ -779,6 +829,12 @@ static void try_all(bool is_few) {
         for (uint32_t middle = 1; middle < 80; middle += 6)
             tries("is begun twice", is_begun_twice, machines, middle);
     }
+    for (uint32_t apart = 1; apart <= 20; apart += is_few ? 9 : 1)
+        for (uint32_t loss = 0; loss <= 20; loss += 10)
+            tries("watches two seams", watches_two_seams, apart, loss);
+    for (uint32_t after = 1; after <= 81; after += is_few ? 40 : 2)
+        for (uint32_t loss = 0; loss <= 20; loss += 10)
+            tries("watches who comes back", watches_who_comes_back, after, loss);
     if (is_few)
         return;
     for (uint32_t machines = 3; machines <= 4; machines++) {

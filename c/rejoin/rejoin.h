@@ -54,7 +54,7 @@ typedef struct faz_hosting {
     void *of;
 
     faz_table table;
-    bool has_begun, is_marked, is_counted;
+    bool has_begun, is_marked, is_counted, is_told;
     uint32_t begun_at;
     fazgrond_giver about, state, ready;
 } faz_hosting;
