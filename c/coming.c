@@ -541,6 +541,17 @@ static void comes_back_on_a_bad_line(uint32_t machines, uint32_t loss) {
     (void)come_back(of, 200, 31);
 }
 
+/* Who came back on a line that loses much is heard, so that it stays, although what comes may not be enough to measure the line by. */
+static void stays_on_a_bad_line(uint32_t draw, uint32_t loss) {
+    terms of = terms_for(4);
+    (void)draw;
+    of.loss = loss;
+    of.latency = 5;
+    (void)come_back(of, 200, 31);
+    run(60);
+    all_play(4);
+}
+
 static void comes_back_with_a_state(uint32_t size, uint32_t latency) {
     terms of = terms_for(3);
     of.size = size;
@@ -829,6 +840,8 @@ static void try_all(bool is_few) {
         for (uint32_t middle = 1; middle < 80; middle += 6)
             tries("is begun twice", is_begun_twice, machines, middle);
     }
+    for (uint32_t draw = 1; draw <= 20; draw += is_few ? 10 : 1)
+        tries("stays on a bad line", stays_on_a_bad_line, draw, 30);
     for (uint32_t apart = 1; apart <= 20; apart += is_few ? 9 : 1)
         for (uint32_t loss = 0; loss <= 20; loss += 10)
             tries("watches two seams", watches_two_seams, apart, loss);

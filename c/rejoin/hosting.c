@@ -224,7 +224,7 @@ static void watch_who_came(faz_hosting *self, uint32_t now) {
         return;
     for (uint32_t machine = 0; machine < FAZGROND_MACHINES; machine++)
         if ((self->table.came >> machine & 1) != 0 && machine != self->me
-            && fazgrond_peer_stats(self->peer, (uint8_t)machine, &stats) == FAZGROND_OK && stats.is_measured == 0)
+            && fazgrond_peer_stats(self->peer, (uint8_t)machine, &stats) == FAZGROND_OK && stats.received == 0)
             (void)fazgrond_peer_disconnect(self->peer, (uint8_t)machine);
     self->table.came = 0;
 }
