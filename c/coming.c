@@ -840,12 +840,12 @@ static void try_all(bool is_few) {
         for (uint32_t middle = 1; middle < 80; middle += 6)
             tries("is begun twice", is_begun_twice, machines, middle);
     }
-    for (uint32_t draw = 1; draw <= 20; draw += is_few ? 10 : 1)
+    for (uint32_t draw = 1; draw <= 10; draw += is_few ? 8 : 1)
         tries("stays on a bad line", stays_on_a_bad_line, draw, 30);
-    for (uint32_t apart = 1; apart <= 20; apart += is_few ? 9 : 1)
+    for (uint32_t apart = 1; apart <= 17; apart += is_few ? 9 : 2)
         for (uint32_t loss = 0; loss <= 20; loss += 10)
             tries("watches two seams", watches_two_seams, apart, loss);
-    for (uint32_t after = 1; after <= 81; after += is_few ? 40 : 2)
+    for (uint32_t after = 1; after <= 81; after += is_few ? 48 : 12)
         for (uint32_t loss = 0; loss <= 20; loss += 10)
             tries("watches who comes back", watches_who_comes_back, after, loss);
     if (is_few)
