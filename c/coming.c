@@ -60,6 +60,7 @@ typedef struct place {
     uint64_t from, settled; /* its first frame of the match, and the one after the last that is settled here */
     record records[KEPT];
     bool is_closing, is_here; /* a seam is carried out; it has begun to play */
+    bool is_fewer;            /* somebody has left in this turn */
     uint32_t me, wait, begun, came_at, gave, frames_stood, epochs, desyncs;
     datagram *line;
     size_t on_the_way;
@@ -312,12 +313,33 @@ static void synchronize(place *self) {
     see_settled(self);
 }
 
+static void hear_events(place *self) {
+    fazgrond_event event;
+    while (fazgrond_peer_event(&self->peer, &event) == FAZGROND_OK) {
+        self->wait = event.code == FAZGROND_TIME_SYNC ? event.frames_ahead : self->wait;
+        self->desyncs += event.code == FAZGROND_DESYNC;
+        self->is_fewer |= event.code == FAZGROND_LEFT || event.code == FAZGROND_DISCONNECTED;
+        IS(event.code == FAZGROND_REFUSED || event.code == FAZGROND_MISMATCH || event.code == FAZGROND_DROPPED, false);
+    }
+}
+
+/* Once somebody has left, rows past the end may be known: they aren't played before the epoch has ended. */
+static int32_t end_epoch(place *self, uint32_t *frames) {
+    int32_t code = self->is_fewer ? fazgrond_peer_go_on(&self->peer, &self->session, frames) : FAZGROND_NOTHING;
+    self->is_fewer = false;
+    if (code != FAZGROND_NOTHING)
+        return code;
+    synchronize(self);
+    return fazgrond_peer_go_on(&self->peer, &self->session, frames);
+}
+
 static void go_on(uint32_t at) {
     place *self = &all[at];
     uint32_t frames;
-    synchronize(self);
-    if (fazgrond_peer_go_on(&self->peer, &self->session, &frames) != FAZGROND_OK)
+    int32_t code = end_epoch(self, &frames);
+    if (code == FAZGROND_NOTHING)
         return;
+    OK(code);
     uint64_t base = self->epoch.base;
     OK(fazgrond_peer_epoch(&self->peer, &self->epoch));
     IS(self->epoch.base > base, true);
@@ -352,15 +374,6 @@ static void play(uint32_t at) {
     see_settled(self);
 }
 
-static void hear_events(place *self) {
-    fazgrond_event event;
-    while (fazgrond_peer_event(&self->peer, &event) == FAZGROND_OK) {
-        self->wait = event.code == FAZGROND_TIME_SYNC ? event.frames_ahead : self->wait;
-        self->desyncs += event.code == FAZGROND_DESYNC;
-        IS(event.code == FAZGROND_REFUSED || event.code == FAZGROND_MISMATCH || event.code == FAZGROND_DROPPED, false);
-    }
-}
-
 /* At which place a machine is, as this epoch has it. One that is no more in it was at its number's, so far as anything goes there. */
 static uint32_t place_of(uint32_t at, uint32_t machine) {
     for (uint32_t player = 0; player < with.players; player++)
@@ -387,6 +400,7 @@ static void take_turn_in_match(uint32_t at) {
     uint32_t is_running;
     OK(fazgrond_peer_poll(&self->peer, &self->session, now_of(at)));
     OK(fazgrond_peer_is_running(&self->peer, &is_running));
+    hear_events(self);
     if (is_running != 0) {
         faz_hosting_answer(&self->hosting);
         go_on(at);
@@ -396,7 +410,6 @@ static void take_turn_in_match(uint32_t at) {
             self->came_at = turn;
         self->is_here = true;
     }
-    hear_events(self);
     send_all(at);
 }
 
@@ -766,6 +779,19 @@ static void host_lies(uint32_t machines, uint32_t after) {
     agree(&all[1], &all[at]);
 }
 
+/* A mark is put, and the other machine stops before its words for that row have come. Once that is gone, the epoch ends. */
+static void ends_once_who_stopped_is_gone(uint32_t machines, uint32_t turns) {
+    fazgrond_mark mark = fazgrond_mark_for();
+    begin(terms_for(machines));
+    run(100);
+    OK(fazgrond_peer_mark(&all[0].peer, &all[0].session, 1, &mark));
+    stop(machines - 1);
+    run(turns);
+    OK(fazgrond_peer_disconnect(&all[0].peer, (uint8_t)(machines - 1)));
+    run(100);
+    IS(all[0].epochs, 1);
+}
+
 static void tries(const char *what, void (*try)(uint32_t, uint32_t), uint32_t one, uint32_t two) {
     of_what = what;
     of_one = one;
@@ -830,6 +856,8 @@ static void try_all(bool is_few) {
         tries("comes late", comes_late, machines, 100);
         tries("comes back again", comes_back_again, machines, 3);
         tries("watches", watches, machines, 3);
+        for (uint32_t turns = 1; turns <= 21; turns += 4)
+            tries("ends once who stopped is gone", ends_once_who_stopped_is_gone, machines, turns);
         tries("plays after all", plays_after_all, machines, 200);
         if (is_few)
             break;
