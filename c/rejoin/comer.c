@@ -166,7 +166,7 @@ static void ask_host(faz_comer *self) {
 /* Whether rows are missing up to the end of the epoch that is followed, and none comes any more: a host has the last ones of an epoch only
  * as long as it needs them for the others. */
 static bool is_left_behind(faz_comer *self, uint32_t now) {
-    fazgrond_line_state state;
+    fazgrond_line_state state = { 0 };
     return self->has_next && now - self->moved_at > STANDS && fazgrond_viewer_look(&self->viewer, now, &state) == FAZGROND_OK
         && state.rows < self->next.epoch.base - self->table.epoch.base;
 }

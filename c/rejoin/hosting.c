@@ -168,7 +168,7 @@ static void mark(faz_hosting *self, const faz_seat *seat) {
 
 /* Whether somebody who watches hasn't come over the last seam yet: if another one came now, it might miss frames. */
 static bool is_watched_before(faz_hosting *self, uint32_t now) {
-    fazgrond_line_state state;
+    fazgrond_line_state state = { 0 };
     for (int at = 0; at < FAZ_SEATS && now - self->begun_at < WAITED_FOR; at++) {
         faz_seat *seat = &self->seat[at];
         if (seat->is_taken && seat->players == 0 && !seat->is_heard && fazgrond_line_look(&seat->before, now, &state) == FAZGROND_OK
