@@ -60,6 +60,7 @@ typedef struct place {
     uint64_t from, settled; /* its first frame of the match, and the one after the last that is settled here */
     record records[KEPT];
     bool is_closing, is_here; /* a seam is carried out; it has begun to play */
+    bool is_fewer;            /* somebody has left in this turn */
     uint32_t me, wait, begun, came_at, gave, frames_stood, epochs, desyncs;
     datagram *line;
     size_t on_the_way;
@@ -312,12 +313,33 @@ static void synchronize(place *self) {
     see_settled(self);
 }
 
+static void hear_events(place *self) {
+    fazgrond_event event;
+    while (fazgrond_peer_event(&self->peer, &event) == FAZGROND_OK) {
+        self->wait = event.code == FAZGROND_TIME_SYNC ? event.frames_ahead : self->wait;
+        self->desyncs += event.code == FAZGROND_DESYNC;
+        self->is_fewer |= event.code == FAZGROND_LEFT || event.code == FAZGROND_DISCONNECTED;
+        IS(event.code == FAZGROND_REFUSED || event.code == FAZGROND_MISMATCH || event.code == FAZGROND_DROPPED, false);
+    }
+}
+
+/* Once somebody has left, rows past the end may be known: they aren't played before the epoch has ended. */
+static int32_t end_epoch(place *self, uint32_t *frames) {
+    int32_t code = self->is_fewer ? fazgrond_peer_go_on(&self->peer, &self->session, frames) : FAZGROND_NOTHING;
+    self->is_fewer = false;
+    if (code != FAZGROND_NOTHING)
+        return code;
+    synchronize(self);
+    return fazgrond_peer_go_on(&self->peer, &self->session, frames);
+}
+
 static void go_on(uint32_t at) {
     place *self = &all[at];
     uint32_t frames;
-    synchronize(self);
-    if (fazgrond_peer_go_on(&self->peer, &self->session, &frames) != FAZGROND_OK)
+    int32_t code = end_epoch(self, &frames);
+    if (code == FAZGROND_NOTHING)
         return;
+    OK(code);
     uint64_t base = self->epoch.base;
     OK(fazgrond_peer_epoch(&self->peer, &self->epoch));
     IS(self->epoch.base > base, true);
@@ -352,15 +374,6 @@ static void play(uint32_t at) {
     see_settled(self);
 }
 
-static void hear_events(place *self) {
-    fazgrond_event event;
-    while (fazgrond_peer_event(&self->peer, &event) == FAZGROND_OK) {
-        self->wait = event.code == FAZGROND_TIME_SYNC ? event.frames_ahead : self->wait;
-        self->desyncs += event.code == FAZGROND_DESYNC;
-        IS(event.code == FAZGROND_REFUSED || event.code == FAZGROND_MISMATCH || event.code == FAZGROND_DROPPED, false);
-    }
-}
-
 /* At which place a machine is, as this epoch has it. One that is no more in it was at its number's, so far as anything goes there. */
 static uint32_t place_of(uint32_t at, uint32_t machine) {
     for (uint32_t player = 0; player < with.players; player++)
@@ -387,6 +400,7 @@ static void take_turn_in_match(uint32_t at) {
     uint32_t is_running;
     OK(fazgrond_peer_poll(&self->peer, &self->session, now_of(at)));
     OK(fazgrond_peer_is_running(&self->peer, &is_running));
+    hear_events(self);
     if (is_running != 0) {
         faz_hosting_answer(&self->hosting);
         go_on(at);
@@ -396,7 +410,6 @@ static void take_turn_in_match(uint32_t at) {
             self->came_at = turn;
         self->is_here = true;
     }
-    hear_events(self);
     send_all(at);
 }
 
@@ -541,6 +554,17 @@ static void comes_back_on_a_bad_line(uint32_t machines, uint32_t loss) {
     (void)come_back(of, 200, 31);
 }
 
+/* Who came back on a line that loses much is heard, so that it stays, although what comes may not be enough to measure the line by. */
+static void stays_on_a_bad_line(uint32_t draw, uint32_t loss) {
+    terms of = terms_for(4);
+    (void)draw;
+    of.loss = loss;
+    of.latency = 5;
+    (void)come_back(of, 200, 31);
+    run(60);
+    all_play(4);
+}
+
 static void comes_back_with_a_state(uint32_t size, uint32_t latency) {
     terms of = terms_for(3);
     of.size = size;
@@ -657,6 +681,56 @@ static void watches(uint32_t machines, uint32_t seams) {
     agree(&all[0], &all[at]);
 }
 
+/* Place `at` watches place 0, from some frame of the match on. */
+static void begin_to_watch(uint32_t at, uint32_t before) {
+    run(before);
+    begin_to_come(at);
+    all[at].comer.machines = 1;
+    run(100);
+    IS(all[at].mode, COMES);
+    IS(all[at].settled + 30 > all[0].settled, true);
+}
+
+/* Two seams, so many turns apart: who watches goes on from the state there if it has to, and doesn't stand still for long. */
+static void watches_two_seams(uint32_t apart, uint32_t loss) {
+    terms of = terms_for(2);
+    fazgrond_mark mark = fazgrond_mark_for();
+    of.loss = loss;
+    begin(of);
+    begin_to_watch(2, 100);
+    OK(fazgrond_peer_mark(&all[0].peer, &all[0].session, 1, &mark));
+    for (uint32_t seams = all[0].epochs; all[0].epochs == seams;)
+        run(1);
+    run(apart);
+    OK(fazgrond_peer_mark(&all[0].peer, &all[0].session, 1, &mark));
+    run(100);
+    IS(all[0].epochs >= 2, true);
+    IS(all[2].settled + 40 > all[0].settled, true);
+    all_play(2);
+    agree(&all[0], &all[2]);
+}
+
+/* A player comes back, which takes two seams, and its machine has nobody beside it at the first one. Who watches is shown all frames. */
+static void watches_who_comes_back(uint32_t after, uint32_t loss) {
+    terms of = terms_for(2);
+    of.loss = loss;
+    of.size = 1000;
+    begin(of);
+    begin_to_watch(2, 100);
+    uint64_t from = all[2].from;
+    run(400);
+    stop(1);
+    run(after);
+    begin_to_come(1);
+    (void)turns_to_come(1, 1000);
+    run(100);
+    all_play(2);
+    IS(all[0].epochs >= 2, true);
+    IS(all[2].from, from);
+    IS(all[2].settled + 40 > all[0].settled, true);
+    agree(&all[0], &all[2]);
+}
+
 /* Who watches becomes a player, once all know it. */
 static void plays_after_all(uint32_t machines, uint32_t watched) {
     terms of = terms_for(machines);
@@ -703,6 +777,19 @@ static void host_lies(uint32_t machines, uint32_t after) {
     all_play(machines);
     words_count(at, 1);
     agree(&all[1], &all[at]);
+}
+
+/* A mark is put, and the other machine stops before its words for that row have come. Once that is gone, the epoch ends. */
+static void ends_once_who_stopped_is_gone(uint32_t machines, uint32_t turns) {
+    fazgrond_mark mark = fazgrond_mark_for();
+    begin(terms_for(machines));
+    run(100);
+    OK(fazgrond_peer_mark(&all[0].peer, &all[0].session, 1, &mark));
+    stop(machines - 1);
+    run(turns);
+    OK(fazgrond_peer_disconnect(&all[0].peer, (uint8_t)(machines - 1)));
+    run(100);
+    IS(all[0].epochs, 1);
 }
 
 static void tries(const char *what, void (*try)(uint32_t, uint32_t), uint32_t one, uint32_t two) {
@@ -769,6 +856,8 @@ static void try_all(bool is_few) {
         tries("comes late", comes_late, machines, 100);
         tries("comes back again", comes_back_again, machines, 3);
         tries("watches", watches, machines, 3);
+        for (uint32_t turns = 1; turns <= 21; turns += 4)
+            tries("ends once who stopped is gone", ends_once_who_stopped_is_gone, machines, turns);
         tries("plays after all", plays_after_all, machines, 200);
         if (is_few)
             break;
@@ -779,6 +868,14 @@ static void try_all(bool is_few) {
         for (uint32_t middle = 1; middle < 80; middle += 6)
             tries("is begun twice", is_begun_twice, machines, middle);
     }
+    for (uint32_t draw = 1; draw <= 10; draw += is_few ? 8 : 1)
+        tries("stays on a bad line", stays_on_a_bad_line, draw, 30);
+    for (uint32_t apart = 1; apart <= 17; apart += is_few ? 9 : 2)
+        for (uint32_t loss = 0; loss <= 20; loss += 10)
+            tries("watches two seams", watches_two_seams, apart, loss);
+    for (uint32_t after = 1; after <= 81; after += is_few ? 48 : 12)
+        for (uint32_t loss = 0; loss <= 20; loss += 10)
+            tries("watches who comes back", watches_who_comes_back, after, loss);
     if (is_few)
         return;
     for (uint32_t machines = 3; machines <= 4; machines++) {

@@ -12,6 +12,9 @@
 /* Of the other machine's candidates so many are taken, so often the context runs in a turn, and so many bytes may wait in a socket. */
 enum { CANDIDATES = 40, STEPS = 256, ROOM = 1 << 20 };
 
+/* What isn't answered is sent again after so many milliseconds, after twice that, and so on, this often. */
+enum { ASKED_AGAIN = 250, TIMES = 4 };
+
 struct ice {
     GMainContext *context;
     NiceAgent *agent;
@@ -99,7 +102,8 @@ ice *ice_open(const ice_settings *settings) {
     self->agent = nice_agent_new_full(self->context, NICE_COMPATIBILITY_RFC5245,
                                       NICE_AGENT_OPTION_ICE_TRICKLE | NICE_AGENT_OPTION_CONSENT_FRESHNESS);
     g_object_set(self->agent, "controlling-mode", (gboolean)settings->leads, "upnp", FALSE, "ice-tcp", FALSE, "force-relay",
-                 (gboolean)settings->line->relay_only, NULL);
+                 (gboolean)settings->line->relay_only, "stun-initial-timeout", (guint)ASKED_AGAIN, "stun-max-retransmissions",
+                 (guint)TIMES, NULL);
     g_signal_connect(self->agent, "new-candidate-full", G_CALLBACK(on_candidate), self);
     g_signal_connect(self->agent, "candidate-gathering-done", G_CALLBACK(on_gathered), self);
     g_signal_connect(self->agent, "component-state-changed", G_CALLBACK(on_state), self);

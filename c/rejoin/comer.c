@@ -12,7 +12,8 @@ enum {
     RARELY = 8,     /* of so many turns, in one the table is asked for, if nothing is to come soon */
     NEAR = 120,     /* rows that are stepped sooner than another state comes .. */
     FEW = 8,        /* .. and those that come in a turn or two */
-    PATIENCE = 2000 /* milliseconds without anything new after which another host is followed */
+    STANDS = 500,   /* milliseconds without a row after which the state of the next epoch is taken: that isn't told any more .. */
+    PATIENCE = 2000 /* .. and without anything new, after which another host is followed */
 };
 
 void faz_comer_begin(faz_comer *self) { self->host = self->avoided = FAZGROND_NO_MACHINE; }
@@ -162,10 +163,18 @@ static void ask_host(faz_comer *self) {
         self->send(self->of, self->host, bytes, length);
 }
 
+/* Whether rows are missing up to the end of the epoch that is followed, and none comes any more: a host has the last ones of an epoch only
+ * as long as it needs them for the others. */
+static bool is_left_behind(faz_comer *self, uint32_t now) {
+    fazgrond_line_state state = { 0 };
+    return self->has_next && now - self->moved_at > STANDS && fazgrond_viewer_look(&self->viewer, now, &state) == FAZGROND_OK
+        && state.rows < self->next.epoch.base - self->table.epoch.base;
+}
+
 /* Who only watches stays with a host that is heard, though the match stands still. */
 static bool is_watching(faz_comer *self, uint32_t now) {
     fazgrond_line_state state;
-    return self->players == 0 && self->has_state
+    return self->players == 0 && self->has_state && !self->has_next
         && fazgrond_viewer_look(&self->viewer, now, &state) == FAZGROND_OK && state.is_playing != 0
         && state.is_silent == 0;
 }
@@ -178,6 +187,8 @@ void faz_comer_turn(faz_comer *self, uint32_t now) {
     self->now = now;
     if (self->host != FAZGROND_NO_MACHINE && now - self->moved_at > PATIENCE)
         begin_anew(self);
+    if (self->host != FAZGROND_NO_MACHINE && is_left_behind(self, now))
+        follow(self, self->host, &self->next);
     if (self->host != FAZGROND_NO_MACHINE)
         ask_host(self);
     else

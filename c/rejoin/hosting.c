@@ -10,6 +10,8 @@ enum {
     PIECES = 8,         /* that are answered of an ask */
     CAUGHT_UP = 30,     /* so many rows may be missing of who is proposed */
     LONG = 300,         /* an epoch with so many rows is ended for who begins to follow it */
+    TOLD_AT_ONCE = 4,   /* so often, as an epoch has ended, its last rows are told: a machine that is alone forgets it in the next turn */
+    WAITED_FOR = 1000,  /* milliseconds after a seam in which nobody is proposed before who watches has come over it */
     HEARD_WITHIN = 2000 /* milliseconds in which who has come in has to be heard */
 };
 
@@ -58,7 +60,7 @@ int32_t faz_hosting_begin(faz_hosting *self, const uint8_t *state, size_t length
         seat->line = (fazgrond_line)FAZGROND_CLOSED;
         seat->is_heard = seat->is_late = seat->is_ready = false;
     }
-    self->is_marked = self->is_counted = false;
+    self->is_marked = self->is_counted = self->is_told = false;
     self->has_begun = true;
     return code != FAZGROND_OK ? code : told;
 }
@@ -164,6 +166,18 @@ static void mark(faz_hosting *self, const faz_seat *seat) {
     self->is_marked = code == FAZGROND_OK || code == FAZGROND_MARKED;
 }
 
+/* Whether somebody who watches hasn't come over the last seam yet: if another one came now, it might miss frames. */
+static bool is_watched_before(faz_hosting *self, uint32_t now) {
+    fazgrond_line_state state = { 0 };
+    for (int at = 0; at < FAZ_SEATS && now - self->begun_at < WAITED_FOR; at++) {
+        faz_seat *seat = &self->seat[at];
+        if (seat->is_taken && seat->players == 0 && !seat->is_heard && fazgrond_line_look(&seat->before, now, &state) == FAZGROND_OK
+            && state.is_playing != 0 && state.is_silent == 0 && state.has_ended == 0)
+            return true;
+    }
+    return false;
+}
+
 /* Whoever follows this machine is proposed, or what it needs is done first. */
 static void propose(faz_hosting *self, faz_seat *seat, uint32_t now) {
     fazgrond_line_state state = { 0 };
@@ -176,7 +190,7 @@ static void propose(faz_hosting *self, faz_seat *seat, uint32_t now) {
     bool is_out = is_free(self, seat, settled);
     if (!is_out && owner != self->me)
         (void)fazgrond_peer_disconnect(self->peer, (uint8_t)owner);
-    if (self->is_marked)
+    if (self->is_marked || is_watched_before(self, now))
         return;
     if (seat->is_late)
         mark(self, NULL);
@@ -190,7 +204,8 @@ static void tell(faz_hosting *self, uint32_t to, uint32_t now) {
     fazgrond_line_state state = { 0 };
     size_t length;
     faz_seat *seat = &self->seat[to];
-    if (fazgrond_line_send_before(&seat->before, self->peer, now, bytes, sizeof bytes, &length) == FAZGROND_OK)
+    int times = self->is_told ? 1 : TOLD_AT_ONCE;
+    while (times-- > 0 && fazgrond_line_send_before(&seat->before, self->peer, now, bytes, sizeof bytes, &length) == FAZGROND_OK)
         self->send(self->of, to, bytes, length);
     if (fazgrond_line_send(&seat->line, self->session, now, bytes, sizeof bytes, &length) == FAZGROND_OK)
         self->send(self->of, to, bytes, length);
@@ -209,7 +224,7 @@ static void watch_who_came(faz_hosting *self, uint32_t now) {
         return;
     for (uint32_t machine = 0; machine < FAZGROND_MACHINES; machine++)
         if ((self->table.came >> machine & 1) != 0 && machine != self->me
-            && fazgrond_peer_stats(self->peer, (uint8_t)machine, &stats) == FAZGROND_OK && stats.is_measured == 0)
+            && fazgrond_peer_stats(self->peer, (uint8_t)machine, &stats) == FAZGROND_OK && stats.received == 0)
             (void)fazgrond_peer_disconnect(self->peer, (uint8_t)machine);
     self->table.came = 0;
 }
@@ -223,6 +238,7 @@ void faz_hosting_turn(faz_hosting *self, uint32_t now) {
             propose(self, &self->seat[at], now);
             tell(self, at, now);
         }
+    self->is_told = true;
 }
 
 void faz_hosting_bye(faz_hosting *self) {

@@ -54,7 +54,7 @@ typedef struct faz_hosting {
     void *of;
 
     faz_table table;
-    bool has_begun, is_marked, is_counted;
+    bool has_begun, is_marked, is_counted, is_told;
     uint32_t begun_at;
     fazgrond_giver about, state, ready;
 } faz_hosting;
@@ -67,7 +67,9 @@ int32_t faz_hosting_begin(faz_hosting *self, const uint8_t *state, size_t length
 void faz_hosting_hear(faz_hosting *self, uint32_t seat, const uint8_t *bytes, size_t length, uint32_t now);
 
 /* Once a turn while the match runs, after fazgrond_peer_poll, and before fazgrond_peer_go_on. Whoever asks to come is answered. Before
- * fazgrond_peer_go_on call fazgrond_synchronize_input too if fazgrond_has_news: else who follows isn't told the last rows of the epoch. */
+ * fazgrond_peer_go_on call fazgrond_synchronize_input too if fazgrond_has_news: else who follows isn't told the last rows of the epoch.
+ * But in a turn in which FAZGROND_LEFT or FAZGROND_DISCONNECTED came call fazgrond_peer_go_on first: rows past the end are known then, and
+ * once they were played the epoch can't end any more. */
 void faz_hosting_answer(faz_hosting *self);
 
 /* Once a turn while the match runs, before the game gives its own words. Whoever was begun anew is regarded as gone, who has come up to this

@@ -16,6 +16,7 @@
 enum {
     SPARE = 65536, /* so many bytes more than here a state may have */
     SILENT = 500, TELL_EVERY = 1000, OVER_A_SEAM = 2000, /* milliseconds */
+    APART = 60, /* frames from a seam to one that this machine asks for: who watches has come over the first one by then */
     TICKETS = 1
 };
 
@@ -183,6 +184,8 @@ static void begin_epoch(match *self, uint32_t frames) {
 static void ask_for_delays(match *self) {
     fazgrond_mark mark = fazgrond_mark_for();
     bool is_other = false;
+    if (self->frame < self->lasting.base + APART)
+        return;
     for (uint32_t seat = 0; seat < self->seats; seat++) {
         uint32_t player = self->locals[seat] - 1;
         mark.delays[player] = self->wish->delays[seat];

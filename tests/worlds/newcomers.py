@@ -170,6 +170,8 @@ class Host:
             return self.begin(epoch, newcomer, had)
         base = epoch.terms.base
         rows = tuple(machine.rows[base + at] for at in range(had.rows, min(epoch.rows, had.rows + ROWS)))
+        if not rows and epoch is machine.old and newcomer in machine.epoch.terms.members:
+            return self.begin(machine.epoch, newcomer, had)
         return Rows(epoch.terms.id, had.rows, rows, machine.digests.get(base + had.rows)) if rows else None
 
     def begin(self, epoch, newcomer, had):
