@@ -1,12 +1,11 @@
 -- When the machines of a match agree.
-use Rattle.std.specs.Prelude.{◌≡◌, ◌<◌, ◌≤◌, ℕ, List, map, option_map, true, Option}
+use Rattle.std.specs.Prelude.{◌≡◌, ◌<◌, ℕ, List, map, option_map, true, Option}
 use Rattle.std.specs.List.{All, range_with_len}
 use Rattle.prog_parts.specs.declared.ending.GameName.{GameName}
 use Rattle.prog_parts.specs.declared.ending.GameName.TheVariants.{Duel, Tally}
 use Rattle.prog_sides.specs.Agreement.{Agree}
 use Rattle.roll_duel.specs.Bytes.{step as duel_step}
 use Rattle.roll_game.specs.Tally.{tally_step}
-use Rattle.roll_epoch.specs.declared.terms.Terms.{Terms}
 use Rattle.roll_frame.specs.Cells.{Rows}
 use Rattle.roll_member.specs.Joined.{Joined}
 use Rattle.roll_mesh.specs.Machines.{left_at}
