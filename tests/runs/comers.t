@@ -17,9 +17,9 @@ The lowest machine that is at the frame marks its word of that frame, so the nex
   $ rollduel match --frames 200 --late 0 --stop 0:30 --come 0:100 | told
   all 2 that stay agree: frame 200 settled, machine 0 left at 30, machine 0 came at 101
 
-A second machine comes in an epoch after it, and a delay that changes in the same frame needs no epoch of its own.
+A second machine that is to come a frame later comes in an epoch after it, and a delay that changes in the same frame needs no epoch of its own.
 
-  $ rollduel match --peers 4 --frames 200 --late 0 --stop 1:60 --come 1:100 --come 3:100 > out
+  $ rollduel match --peers 4 --frames 200 --late 0 --stop 1:60 --come 1:100 --come 3:101 > out
   $ told < out; value epochs < out
   all 4 that stay agree: frame 200 settled, machine 1 left at 60, machine 1 came at 101, machine 3 came at 102
   0,101,102
@@ -103,7 +103,7 @@ Of two parts that are as large the one with machine 0 plays on, whichever is nam
 
 A machine that is parted later carries for the one that was before.
 
-  $ rollduel match --peers 5 --frames 1500 --late 0 --split 3:100 --split 4:600 | told | grep -o 'machine 3 left at [0-9]*\|machine 4 left at [0-9]*' | awk '{ print $2, $5 > 590 }'
+  $ rollduel match --peers 5 --frames 1500 --late 0 --split 3:100 --split 4:600 | told | grep -o 'machine 3 left at [0-9]*\|machine 4 left at [0-9]*' | awk '{ print $2, ($5 > 590) }'
   3 1
   4 1
   $ rollduel match --peers 3 --frames 1000 --lost 10 --split 2:300 --delay-at 0:2:600 | value epochs

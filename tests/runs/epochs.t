@@ -42,10 +42,10 @@ frames are run again, since those of frames 1 and 2 end an epoch.
 Where datagrams are up to three ticks late, a delay of four frames leaves no rollback: all that there are come before it. In 26 frames
 there are at most as many.
 
-  $ rollduel match --frames 600 --hold 2 --late 2 --delay-at 0:4:20 --delay-at 1:4:20 | value rollbacks | tr , '\n' | awk '{ print $1 <= 26 }'
+  $ rollduel match --frames 600 --hold 2 --late 2 --delay-at 0:4:20 --delay-at 1:4:20 | value rollbacks | tr , '\n' | awk '{ print ($1 <= 26) }'
   1
   1
-  $ rollduel match --frames 600 --hold 2 --late 2 | value rollbacks | tr , '\n' | awk '{ print $1 >= 100 }'
+  $ rollduel match --frames 600 --hold 2 --late 2 | value rollbacks | tr , '\n' | awk '{ print ($1 >= 100) }'
   1
   1
 
