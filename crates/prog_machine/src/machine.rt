@@ -1,12 +1,14 @@
 //! One machine of a match, and what it does in a tick.
-ghost use Rattle.std.specs.Prelude.{◌≡◌, ◌↔◌, ◌⊎◌, ◌<◌, ◌+◌, ◌-◌, ◌^◌, [], IfOk, IfSome, IsTrue, MatchOption, OnOk, false, if◌then◌else◌, is_none, is_some, min, not, true};
+ghost use Rattle.std.specs.Prelude.{◌≡◌, ◌↔◌, ◌⊎◌, ◌<◌, ◌+◌, ◌-◌, ◌^◌, [], IfOk, IfSome, IsTrue, MatchOption, OnOk, false, if◌then◌else◌, is_none, is_some, min, not, slice_index_or, true};
 ghost use Rattle.std.specs.Int.{is_in_range};
 ghost use Rattle.prog_sides.specs.Options.{IsPlayable};
 ghost use Rattle.prog_machine.specs.Over.{IsOver};
 ghost use Rattle.prog_holding.specs.Branches.{HasMore};
-ghost use Rattle.prog_machine.specs.Epochs.{base_of, frame_in};
+ghost use Rattle.prog_machine.specs.Epochs.{base_of, frame_in, is_free, is_in, left_in};
 ghost use Rattle.prog_machine.specs.Options.{goes_on, makes_guesses};
 ghost use Rattle.roll_frame.specs.Core.{settled};
+ghost use Rattle.roll_frame.specs.Paths.{run as run_of};
+ghost use Rattle.roll_frame.specs.Timeline.{timeline};
 ghost use Rattle.prog_machine.specs.Pressing.{pressed};
 ghost use Rattle.prog_machine.specs.Waiting.{after_holding, waited_once};
 ghost use Rattle.prog_observer.specs.Observing.{after_watch, has_rolled, observed};
@@ -109,7 +111,7 @@ pub struct Machine<G: Shown> {
     /// The frame of the match at which a machine came, for one that did.
     pub came: [Option<u32>; MACHINE_LIMIT],
     /// Which machine came as this epoch began, until the match has asked for it.
-    brought: Option<u8>,
+    pub brought: Option<u8>,
     /// Whether it has come itself.
     has_come: bool,
     /// Engines for the sessions of later epochs.
@@ -357,14 +359,23 @@ impl<G: Shown + Drop> Machine<G> {
 
     /// Which machine came as this epoch began; it is told once.
     pub fn take_comer(&mut self) -> Option<u8>
-        ensures { self.new.me ≡ self.old.me }
+        ensures comer { result ≡ self.old.brought }
+        ensures told { self.new ≡ record self.old { brought = None } }
     {
         self.brought.take()
     }
 
     /// What this machine has for the one that came as its epoch began: nothing of it is settled yet.
     pub fn guest(&mut self, alloc: Global) -> Result<Option<Guest<G>>, Refusal>
-        ensures { self.new.me ≡ self.old.me }
+        ensures me { self.new.me ≡ self.old.me }
+        ensures given { IfOk result (λ it. is_some it ≡ is_some self.old.epochs) }
+        ensures terms { IfOk result (λ it. IfSome it (λ guest. IfSome self.old.epochs
+            (λ epochs. guest.terms ≡ epochs.chain.terms))) }
+        ensures state { IfOk result (λ it. IfSome it (λ guest. G.snapshot_value guest.state
+            ≡ run_of G.step self.old.session.opening
+            (timeline self.old.session.core.players (settled self.old.session.core)))) }
+        ensures before { IfOk result (λ it. IfSome it (λ guest. (guest.before.items ≡ self.old.before.items)
+            × (guest.left ≡ self.old.left) × (guest.came ≡ self.old.came))) }
     {
         let Some(epochs) = &self.epochs else {
             return Ok(None);
@@ -385,7 +396,9 @@ impl<G: Shown + Drop> Machine<G> {
     }
 
     /// Whether it is in the epoch of this number.
-    pub fn is_in(&self, id: u64) -> bool {
+    pub fn is_in(&self, id: u64) -> bool
+        ensures { result ≡ is_in self.now.is_silent self.now.epochs id }
+    {
         match &self.epochs {
             Some(epochs) => !self.is_silent && epochs.chain.terms().id == id,
             None => false,
@@ -399,7 +412,10 @@ impl<G: Shown + Drop> Machine<G> {
         options: &PeersOptions,
         guest: Guest<G>,
     ) -> Result<(), Refusal>
-        ensures { self.new.me ≡ self.old.me }
+        ensures me { self.new.me ≡ self.old.me }
+        ensures state { OnOk result (self.new.session.opening ≡ G.snapshot_value guest.state) }
+        ensures before { OnOk result ((self.new.before.items ≡ guest.before.items)
+            × (self.new.left ≡ guest.left) × (self.new.came ≡ guest.came) × (self.new.is_silent ≡ false)) }
     {
         let Some(game) = self.spares.pop() else {
             return Err(Refusal::InvalidRequest);
@@ -859,7 +875,9 @@ impl<G: Shown> Machine<G> {
     }
 
     /// The frame of the match at which a machine came, if it did.
-    pub fn came_at(&self, machine: u8) -> Option<u32> {
+    pub fn came_at(&self, machine: u8) -> Option<u32>
+        ensures { result ≡ slice_index_or self.now.came machine None }
+    {
         match self.came.get(usize::from(machine)) {
             Some(came) => *came,
             None => None,
@@ -867,7 +885,9 @@ impl<G: Shown> Machine<G> {
     }
 
     /// Whether nobody owns a machine's player in this epoch.
-    fn is_free(&self, machine: u8) -> bool {
+    fn is_free(&self, machine: u8) -> bool
+        ensures { result ≡ is_free self.now.epochs machine }
+    {
         match &self.epochs {
             Some(epochs) => { epochs.chain.terms().owners.get(usize::from(machine)) == Some(&FREE) }
             None => false,
@@ -875,7 +895,9 @@ impl<G: Shown> Machine<G> {
     }
 
     /// The frame of the match at which a machine's player left.
-    pub fn left_at(&self, machine: u8) -> Option<u32> {
+    pub fn left_at(&self, machine: u8) -> Option<u32>
+        ensures { result ≡ left_in self.now.left self.now.epochs self.now.peer.member.mesh.machine machine }
+    {
         match self.left.get(usize::from(machine)) {
             Some(Some(frame)) => Some(*frame),
             _ if self.is_free(machine) => None,
@@ -1069,7 +1091,9 @@ fn start<G: Shown + Drop>(
     settings: Settings,
     game: G,
     opening: G::Snapshot,
-) -> Result<(Session<G>, Line), Refusal> {
+) -> Result<(Session<G>, Line), Refusal>
+    ensures { IfOk result (λ it. it.0.opening ≡ G.snapshot_value opening) }
+{
     match Session::start(alloc, game, opening, settings) {
         Ok(session) => open(alloc, session, chain, network),
         Err(fault) => Err(fault.why),
@@ -1082,7 +1106,9 @@ fn open<G: Shown + Drop>(
     session: Session<G>,
     chain: Option<Chain>,
     settings: MatchSettings,
-) -> Result<(Session<G>, Line), Refusal> {
+) -> Result<(Session<G>, Line), Refusal>
+    ensures { IfOk result (λ it. it.0 ≡ session) }
+{
     match line_of(alloc, &session, chain, settings) {
         Ok(line) => Ok((session, line)),
         Err(why) => {
