@@ -144,6 +144,7 @@ def three_pages(server, served, kinds):
 # ---- what is refused
 
 def joins(server, served, kind, name, code, **more):
+    server.post.clear(name)
     with pages((kind, url_of(server, served, name, join=code, **more))):
         return result(server, name, WAIT)
 
@@ -248,7 +249,7 @@ def spies(server, kind, port):
             check(f"they meet while somebody listens in {kind}", all(len(it.get("came", [])) == 2 for it in found), str(found))
             check("the last four signs aren't said", code[-4:].encode() not in heard[0] and code.encode() not in heard[0], code)
     parts = [heard[0].count(it) for it in (b"faz.meet.", b"faz.in.")]
-    check("who listens has heard them", all(it > 3 for it in parts) and len(heard[0]) > 4000, f"{parts}, {len(heard[0])} bytes")
+    check("who listens has heard all", parts[0] >= 3 and parts[1] >= 10 and len(heard[0]) > 4000, f"{parts}, {len(heard[0])} bytes")
     for it in SECRETS:
         check(f"nobody reads {it.decode()}", it not in heard[0], str(heard[0]))
 
