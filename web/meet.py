@@ -358,7 +358,7 @@ class Lobby:
             if says == REFUSED:
                 raise Failed(REASONS[why] if why < len(REASONS) else REASONS[0])
             if says != before and says in (WAITS, SEATED):
-                self.told(f"{name} is asked; both see {self.pair.words()}" if says == WAITS else f"with {name}: both see {self.pair.words()}")
+                self.told(f"{f'{name} is asked;' if says == WAITS else f'with {name}:'} both see {self.pair.words()}")
         self.take_table(of)
 
     def take_table(self, of):

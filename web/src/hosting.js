@@ -1,7 +1,8 @@
 // The host's side of a lobby, as c/lobby/hosting.c and knocking.c have it.
 import { PAGE, Why } from "./reasons.js";
-import { Asks, KINDS, Says, inboxSubject, openAsk, readAsk, readHello, readInbox, readKnock, roomSubject, writeAnswer, writeKnock, writeOffer }
-  from "./messages.js";
+import {
+  Asks, KINDS, Says, inboxSubject, openAsk, readAsk, readHello, readInbox, readKnock, roomSubject, writeAnswer, writeKnock, writeOffer,
+} from "./messages.js";
 import { Pair, codeOf, drawHost, drawShort, roomOf, writeCode, writeShort } from "./keys.js";
 import { Pake } from "./pake.js";
 import { drawn, hex, numberOf } from "./bytes.js";
@@ -20,7 +21,8 @@ export class Host {
   constructor(lobby, { isShort = false, asks = false, players = 2, common = new Uint8Array(0) }) {
     if (!(players >= 2 && players <= 8)) throw new Error("a match has 2 to 8 players");
     Object.assign(this, { lobby, isShort, asks: asks || isShort, players, common });
-    Object.assign(this, { guests: new Map(), knockers: new Map(), gone: [], named: 0, plate: "", wrong: 0, isTold: false, proofs: 0 });
+    Object.assign(this, { guests: new Map(), knockers: new Map(), gone: [], named: 0 });
+    Object.assign(this, { plate: "", wrong: 0, isTold: false, proofs: 0 });
   }
 
   async begin() {
@@ -162,7 +164,8 @@ export class Host {
 
   async stranger({ room, open }, inbox) {
     if (this.guests.size >= MOST_GUESTS) return null;
-    return { stage: "new", room, inbox, pair: await Pair.of(room, this.lobby.keys, open), counter: -1, answers: 0, why: 0, machine: 0 };
+    const pair = await Pair.of(room, this.lobby.keys, open);
+    return { stage: "new", room, inbox, pair, counter: -1, answers: 0, why: 0, machine: 0 };
   }
 
   /** Somebody asks for the first time. A native machine of the same game is told why it can't come in. */
@@ -194,10 +197,14 @@ export class Host {
   async answer(one) {
     const { lobby } = this;
     const text = { counter: ++one.answers, says: Says.WAITS, name: lobby.name };
-    if (one.stage === "refused") Object.assign(text, { says: Says.REFUSED, why: one.why });
-    else if (one.stage === "seated" && lobby.table !== null)
-      Object.assign(text, { says: Says.BEGINS, table: { ...lobby.table, me: one.machine, proof: await this.vouch(one.pair.theirs) } });
-    else if (one.stage === "seated") text.says = Says.SEATED;
+    if (one.stage === "refused") {
+      Object.assign(text, { says: Says.REFUSED, why: one.why });
+    } else if (one.stage === "seated" && lobby.table !== null) {
+      const proof = await this.vouch(one.pair.theirs);
+      Object.assign(text, { says: Says.BEGINS, table: { ...lobby.table, me: one.machine, proof } });
+    } else if (one.stage === "seated") {
+      text.says = Says.SEATED;
+    }
     lobby.say(inboxSubject(one.inbox), writeAnswer(one.pair, text));
   }
 

@@ -1,7 +1,8 @@
 // The side of who joins a lobby, as c/lobby/joining.c has it.
 import { Why } from "./reasons.js";
-import { Asks, DoorSays, KINDS, Says, VERSION, inboxSubject, readAnswer, readKnock, readOffer, roomSubject, writeAsk, writeHello, writeKnock }
-  from "./messages.js";
+import {
+  Asks, DoorSays, KINDS, Says, VERSION, inboxSubject, readAnswer, readKnock, readOffer, roomSubject, writeAsk, writeHello, writeKnock,
+} from "./messages.js";
 import { INBOX, Pair, codeOf, isVouched, roomOf } from "./keys.js";
 import { Pake } from "./pake.js";
 import { drawn, hex, isSame } from "./bytes.js";

@@ -53,14 +53,18 @@ export const drawShort = () => Array.from(drawn(SECRET), (it) => SIGNS[it & 31])
 
 // ---- Rooms: what all know who have a code
 
-export const roomOf = (code) => ({ name: hex(follow("fazgrond room 1", code, CODE_BYTES)), key: follow("fazgrond room key 1", code, KEY) });
+export function roomOf(code) {
+  return { name: hex(follow("fazgrond room 1", code, CODE_BYTES)), key: follow("fazgrond room key 1", code, KEY) };
+}
 
 function sealed(key, bytes, more) {
   const nonce = drawn(NONCE);
   return joined(nonce, seal(key, nonce, bytes, more));
 }
 
-const opened = (key, bytes, more) => (bytes.length < NONCE ? null : open(key, bytes.subarray(0, NONCE), bytes.subarray(NONCE), more));
+function opened(key, bytes, more) {
+  return bytes.length < NONCE ? null : open(key, bytes.subarray(0, NONCE), bytes.subarray(NONCE), more);
+}
 
 /** Seals for all who have a room's key. The kind is sealed with it. */
 export const sealForAll = (room, kind, bytes) => sealed(room.key, bytes, Uint8Array.of(kind));

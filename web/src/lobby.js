@@ -43,7 +43,8 @@ export class Lobby {
   constructor(how, code) {
     const { broker, name = "", digest, hasDoor = false, servers = null, relayOnly = false, told = () => {} } = how;
     if (globalThis.crypto?.subtle === undefined) throw new Error("a browser seals nothing on this page: it has to come by https");
-    this.connection = new Connection({ ...addressOf(broker), heard: (it) => this.hear(it), there: () => this.inTurn(() => this.turn()) });
+    const there = () => this.inTurn(() => this.turn());
+    this.connection = new Connection({ ...addressOf(broker), heard: (it) => this.hear(it), there });
     Object.assign(this, { name: cleanName(name) || "a player", digest: BigInt.asUintN(64, digest) ^ PAGE, relayOnly, told });
     Object.assign(this, { lines: new Map(), table: null, early: [], waiting: 0, lookedAt: 0, heardRoom: null, thereAt: this.now });
     Object.assign(this, { isHost: code === null, isOver: false, isReady: false, isAway: false, isClosed: false });

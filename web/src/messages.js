@@ -7,6 +7,7 @@ export const VERSION = 1;
 export const KINDS = { KNOCK: 107, KNOCKED: 110, HELLO: 104, OFFER: 111, ASK: 97, ANSWER: 115, SIGNAL: 103, DOOR: 100 };
 export const Says = { WAITS: 0, SEATED: 1, BEGINS: 2, REFUSED: 3 };
 export const MOST_PLAYERS = 8;
+const CODE = 16;
 const NOBODY = 255; // whose a place is that no player has
 const NAME_ROOM = 32;
 const MOST_COMMON = 4096;
@@ -130,7 +131,8 @@ function readTable(from) {
   const [me, machines, players] = [from.number(1), from.number(1), from.number(1)];
   const owners = Array.from(from.take(MOST_PLAYERS));
   hold(hasOwners({ me, machines, players, owners }));
-  const [number, key, flags, code, host, proof] = [from.big(8), from.take(KEY), from.number(1), from.take(16), from.take(KEY), from.take(PROOF)];
+  const [number, key, flags] = [from.big(8), from.take(KEY), from.number(1)];
+  const [code, host, proof] = [CODE, KEY, PROOF].map((size) => from.take(size));
   const members = Array.from({ length: machines }, () => ({ open: from.take(KEY), inbox: from.take(INBOX), name: readName(from) }));
   const length = from.number(2);
   hold(length <= MOST_COMMON);
@@ -183,7 +185,8 @@ export async function readDoor(keys, body) {
   const from = new Reader(inside);
   hold(from.number(1) === DOOR_VERSION);
   const [says, plate, token, stun, stunPort] = [from.number(1), from.text(4), from.take(16), from.text(WORD), from.number(2)];
-  const relays = Array.from({ length: from.number(1) }, () => ({ byTcp: from.number(1) !== 0, port: from.number(2), address: from.text(WORD) }));
+  const relay = () => ({ byTcp: from.number(1) !== 0, port: from.number(2), address: from.text(WORD) });
+  const relays = Array.from({ length: from.number(1) }, relay);
   const [user, password, seconds] = [from.text(WORD), from.text(WORD), from.number(4)];
   return { says, plate, token, seconds, servers: serversOf({ stun, stunPort, relays, user, password }) };
 }

@@ -120,7 +120,8 @@ function readExtensions(from) {
   return found;
 }
 
-const ALWAYS = [[EXTENSIONS.SEAL_OUTSIDE, new Uint8Array(0)], [EXTENSIONS.BOUND, new Uint8Array(0)], [EXTENSIONS.RENEGOTIATION, new Uint8Array(1)]];
+const NOTHING = new Uint8Array(0);
+const ALWAYS = [[EXTENSIONS.SEAL_OUTSIDE, NOTHING], [EXTENSIONS.BOUND, NOTHING], [EXTENSIONS.RENEGOTIATION, new Uint8Array(1)]];
 
 /** One direction's seal, good for one record: AES in CBC, and a code over what is sealed. */
 class Seal {

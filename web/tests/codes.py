@@ -44,7 +44,8 @@ class Served:
 
 @contextlib.contextmanager
 def serving(port):
-    process = subprocess.Popen([SERVE, str(port)], stdin=subprocess.DEVNULL, stdout=subprocess.PIPE, stderr=subprocess.DEVNULL, text=True)
+    quiet = {"stdin": subprocess.DEVNULL, "stdout": subprocess.PIPE, "stderr": subprocess.DEVNULL}
+    process = subprocess.Popen([SERVE, str(port)], text=True, **quiet)
     try:
         yield Served(process, port)
     finally:
@@ -204,27 +205,38 @@ def no_way(server, served, kind):
 SECRETS = [b"candidate", b"typ host", b"sdp", b"ice-ufrag", b"webrtc", b"Anna", b"heard"]
 
 
+def conf_of(port):
+    """c/lobby/broker.conf with addresses of this machine."""
+    text = (ROOT / "c/lobby/broker.conf").read_text().replace("203.0.113.10:4222", f"127.0.0.1:{port}")
+    return text.replace("203.0.113.10:4224", f"127.0.0.1:{port + 2}")
+
+
+@contextlib.contextmanager
+def begun(port, room, conf):
+    """A broker by a file's text, with a door."""
+    quiet = {"stdin": subprocess.DEVNULL, "stdout": subprocess.PIPE, "stderr": subprocess.STDOUT, "cwd": room}
+    programs = []
+    Path(room, "conf").write_text(conf)
+    try:
+        env = {**os.environ, "DOOR_PASSWORD": "door"}
+        programs.append(subprocess.Popen(["nats-server", "-c", "conf"], env=env, **quiet))
+        time.sleep(1)
+        programs.append(subprocess.Popen([ROOT / "c/out/faz-door", "--broker", f"nats://127.0.0.1:{port}"], env=env, **quiet))
+        programs[-1].stdout.readline()
+        yield
+    finally:
+        for it in programs:
+            it.kill()
+            it.communicate()
+
+
 @contextlib.contextmanager
 def spied(port):
     """A broker at which one user hears what all players say: what came."""
-    conf = (ROOT / "c/lobby/broker.conf").read_text().replace("203.0.113.10:4222", f"127.0.0.1:{port}")
-    conf = conf.replace("PLAYERS: {\n        users: [", "PLAYERS: {\n        users: [ { user: spy, password: spy },")
+    conf = conf_of(port).replace("PLAYERS: {\n        users: [", "PLAYERS: {\n        users: [ { user: spy, password: spy },")
     conf += f'websocket {{ listen: "127.0.0.1:{port + 2}", no_tls: true }}\n'
-    quiet = {"stdin": subprocess.DEVNULL, "stdout": subprocess.PIPE, "stderr": subprocess.STDOUT}
-    begun = []
-    with tempfile.TemporaryDirectory() as room:
-        Path(room, "conf").write_text(conf)
-        try:
-            env = {**os.environ, "DOOR_PASSWORD": "door"}
-            begun.append(subprocess.Popen(["nats-server", "-c", f"{room}/conf"], env=env, **quiet))
-            time.sleep(1)
-            begun.append(subprocess.Popen([ROOT / "c/out/faz-door", "--broker", f"nats://127.0.0.1:{port}"], env=env, **quiet))
-            begun[-1].stdout.readline()
-            yield listening(port)
-        finally:
-            for it in begun:
-                it.kill()
-                it.communicate()
+    with tempfile.TemporaryDirectory() as room, begun(port, room, conf):
+        yield listening(port)
 
 
 def listening(port):
@@ -254,6 +266,50 @@ def spies(server, kind, port):
         check(f"nobody reads {it.decode()}", it not in heard[0], str(heard[0]))
 
 
+# ---- the broker
+
+ASKS = """
+const socket = new WebSocket(arguments[0]);
+window.said = "";
+const lines = ['CONNECT {"verbose":false}', `SUB ${arguments[1]} 1`, "PUB elsewhere 2", "hi", "PING", ""];
+socket.onopen = () => socket.send(lines.join("\\r\\n"));
+socket.onmessage = async ({ data }) => (window.said += await data.text());
+"""
+
+
+def rights(server, served, kind):
+    """A page may no more at the broker than a program."""
+    with driver(kind) as one:
+        one.go(f"{server.url}/site/index.html")
+        for subject in [">", "faz.>", "faz.*.*", "$SYS.>"]:
+            one.run(ASKS, served.url, subject)
+            one.wait("return window.said.includes('Permissions Violation for Publish')", 20)
+            said = one.run("return window.said")
+            check(f"hearing {subject} from a page", "Permissions Violation for Subscription" in said, said)
+
+
+def over_tls(server, kind, port):
+    """By the block for pages in c/lobby/broker.conf: its commented lines, and a certificate of one's own."""
+    block = re.search(r"^# (websocket \{\n(?:#.*\n)*?)# \}$", conf_of(port), re.M)
+    assert block, "broker.conf has no block for pages"
+    conf = conf_of(port).replace(block.group(), re.sub(r"^# ", "", block.group(), flags=re.M))
+    with tempfile.TemporaryDirectory() as room:
+        made = run(["openssl", "req", "-x509", "-newkey", "ec", "-pkeyopt", "ec_paramgen_curve:prime256v1", "-nodes", "-keyout",
+                    f"{room}/key.pem", "-out", f"{room}/it.pem", "-days", "2", "-subj", "/CN=localhost"])
+        assert made.returncode == 0, made.stdout
+        conf = conf.replace("/etc/ssl/certs/broker.pem", f"{room}/it.pem").replace("/etc/ssl/private/broker.key", f"{room}/key.pem")
+        served = SimpleNamespace(url=f"wss://127.0.0.1:{port + 2}")
+        with begun(port, room, conf), driver(kind, believes=True) as one, driver(kind, believes=True) as other:
+            one.go(url_of(server, served, "tls-0", short=1))
+            other.go(url_of(server, served, "tls-1", join=code_of(server, "tls-0")))
+            found = [result(server, f"tls-{me}", WAIT) for me in range(2)]
+            check(f"over TLS in {kind}", all(len(it.get("came", [])) == 2 for it in found), str(found))
+        with begun(port, room, conf), pages((kind, url_of(server, served, "unknown", short=1))):
+            time.sleep(6)
+            check(f"a certificate that nobody knows in {kind}", "unknown-code-1" not in server.post.texts)
+    server.post.clear("tls-0", "tls-1", "tls-0-code-1")
+
+
 # ---- native games
 
 def by_bridge(served, code, port, *more):
@@ -275,7 +331,7 @@ def a_native_game(server, served, kind):
             found = result(server, name, WAIT)
             said = joined.communicate(timeout=WAIT)[1]
         check(f"a page of {kind} that a native game joins", ended(found, "Cal doesn't play in a browser"), str(found))
-        check("the native game", "the host plays in a browser" in said and joined.returncode == 1, said)
+        check("the native game", "the host plays in a browser" in said and joined.returncode != 0, f"{said} {joined.returncode}")
         server.post.clear(name, f"{name}-code-1")
     for what in [["--door"], []]:
         host = native(served, "--host", "2", *what)
@@ -363,6 +419,16 @@ def by_address(server, served, kind):
 
 # ---- all of them
 
+def one_code(server, kind, port):
+    """Two pages of one browser, by a short code: some seconds, for the gate."""
+    if lacks("pages that meet by a code") or not has("cc", "pages that meet by a code"):
+        return
+    with serving(port) as served:
+        code, found = met(server, served, (kind, kind), "one-code", {"short": 1})
+    check("two pages by a short code", all(max(it.get("came", [0])) >= 60 for it in found), f"{code} {found}")
+    check("they have one number", len({it.get("number") for it in found}) == 1, str(found))
+
+
 def with_native(server, served, kinds, port):
     if not (ROOT / "c/out/duel").is_file() or run(["/usr/bin/python3", "-c", "import aiortc"]).returncode:
         skip("a page and a native game by a code (no c/out/duel with a lobby, or no python3-aiortc)")
@@ -382,9 +448,12 @@ def by_codes(server, kinds, port):
                  lambda served: relayed(server, served, both), lambda served: three_pages(server, served, kinds),
                  lambda served: [wrong_codes(server, served, kind) for kind in kinds],
                  lambda served: with_native(server, served, kinds, port + 8),
-                 lambda served: [whole_page(server, served, it) for it in both], lambda served: [by_address(server, served, it) for it in kinds],
-                 lambda served: [no_way(server, served, kind) for kind in kinds]]:
+                 lambda served: [whole_page(server, served, it) for it in both],
+                 lambda served: [by_address(server, served, it) for it in kinds],
+                 lambda served: [no_way(server, served, kind) for kind in kinds],
+                 lambda served: [rights(server, served, kind) for kind in kinds]]:
         with serving(port) as served:  # (the door counts who asks: each part has a door of its own)
             part(served)
     for kind in kinds:
         spies(server, kind, port)
+        over_tls(server, kind, port)

@@ -40,7 +40,8 @@ const DOES = {
   "a box that was changed": ({ shared, ours, box }) => [openBox(shared, box.slice(0, 32), ours, changed(box.slice(32))), null],
   code: ({ host, text }) => [writeCode(codeOf(host)), new TextDecoder().decode(text)],
   "a code that is read": ({ host, text }) => [hex(readCode(new TextDecoder().decode(text).toLowerCase())?.code ?? []), hex(codeOf(host))],
-  "a room": ({ host, name, key }) => [JSON.stringify(Object.values(roomOf(codeOf(host))).map(String)), JSON.stringify([hex(name), String(key)])],
+  "a room's name": ({ host, name }) => [roomOf(codeOf(host)).name, hex(name)],
+  "a room's key": ({ host, key }) => [hex(roomOf(codeOf(host)).key), hex(key)],
 };
 
 /** Two who talk: each has `turn`, which gives what is said next, a state, and a key. */

@@ -78,10 +78,10 @@ def digits(it):
 
 def cases(sodium):
     all_sealed, all_boxes, all_codes = [SUNSCREEN, *sealed(sodium)], boxes(sodium), codes()
-    found = {"hash": [{"bytes": b"abc", "key": b"", "due": ABC}, *hashes()], "poly1305": [POLY], "hchacha20": [HCHACHA], "seal": all_sealed,
-             "open": all_sealed, "open what was changed": all_sealed, "open by another kind": all_sealed, "box": all_boxes,
-             "a box that was changed": all_boxes, "code": all_codes, "a code that is read": all_codes, "a room": all_codes,
-             "pairs": pairs(sodium)}
+    found = {"hash": [{"bytes": b"abc", "key": b"", "due": ABC}, *hashes()], "poly1305": [POLY], "hchacha20": [HCHACHA],
+             "seal": all_sealed, "open": all_sealed, "open what was changed": all_sealed, "open by another kind": all_sealed, "box": all_boxes,
+             "a box that was changed": all_boxes, "code": all_codes, "a code that is read": all_codes, "a room's name": all_codes,
+             "a room's key": all_codes, "pairs": pairs(sodium)}
     return {what: [digits(it) for it in of] for what, of in found.items()}
 
 
@@ -91,7 +91,8 @@ def native_side(room):
         skip("short codes beside GnuTLS (no libgnutls28-dev)")
         return []
     sources = [WEB / "tests/pake_side.c", ROOT / "c/lobby/pake.c"]
-    made = run(["cc", "-std=c11", "-Wall", "-Wextra", "-Werror", "-O1", "-I", ROOT / "c/lobby", *sources, "-lgnutls", "-o", room / "pake_side"])
+    words = ["-std=c11", "-Wall", "-Wextra", "-Werror", "-O1", "-I", ROOT / "c/lobby", *sources, "-lgnutls", "-o", room / "pake_side"]
+    made = run(["cc", *words])
     return [room / "pake_side"] if check("pake_side.c compiles", made.returncode == 0, made.stdout) else []
 
 
