@@ -456,4 +456,5 @@ def by_codes(server, kinds, port):
             part(served)
     for kind in kinds:
         spies(server, kind, port)
-        over_tls(server, kind, port)
+    if "chromium" in kinds:  # (a Firefox takes no unknown certificate for a WebSocket, also if it is told to)
+        over_tls(server, "chromium", port)

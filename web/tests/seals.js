@@ -44,6 +44,18 @@ const DOES = {
   "a room's key": ({ host, key }) => [hex(roomOf(codeOf(host)).key), hex(key)],
 };
 
+/** Codes with one wrong sign: hardly one is taken, since 12 bits say so. */
+function slips(codes) {
+  const signs = "0123456789ABCDEFGHJKMNPQRSTVWXYZ";
+  let taken = 0;
+  for (const text of codes.map((it) => new TextDecoder().decode(unhex(it.text))))
+    for (let at = 0; at < text.length; at++) {
+      const other = signs[(signs.indexOf(text[at]) + 7) % signs.length];
+      if (text[at] !== "-" && readCode(text.slice(0, at) + other + text.slice(at + 1)) !== null) taken++;
+    }
+  check("of 560 slips of the pen hardly one is taken", taken <= 4, true);
+}
+
 /** Two who talk: each has `turn`, which gives what is said next, a state, and a key. */
 async function talk(host, guest, change = -1) {
   let said = new Uint8Array(0);
@@ -112,6 +124,7 @@ async function pairs(keys) {
 const given = JSON.parse(fs.readFileSync(cases, "utf8"));
 for (const [what, does] of Object.entries(DOES)) for (const it of given[what] ?? []) check(what, ...does(bytesOf(it)));
 await pairs(given.pairs);
+slips(given.code);
 await proofs();
 console.log(`${counts.checks} checks, ${counts.failed} failed`);
 process.exit(counts.failed > 0 ? 1 : 0);
