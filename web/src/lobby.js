@@ -162,8 +162,12 @@ export class Lobby {
   async lineUp(now) {
     if (this.lines.size > 0 || (this.door !== null && !this.door.isOver(now))) return;
     const { members, key, me } = this.table;
-    for (let machine = 0; machine < members.length; machine++)
-      if (machine !== me) this.lines.set(machine, await this.open(machine, members[machine], key, now));
+    try {
+      for (let machine = 0; machine < members.length; machine++)
+        if (machine !== me) this.lines.set(machine, await this.open(machine, members[machine], key, now));
+    } catch (why) {
+      this.end(Why.SYSTEM, `a line can't be opened: ${why.message}`);
+    }
     for (const body of this.early.splice(0)) await this.hearSignal(body).catch(() => {});
   }
 
