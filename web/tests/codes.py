@@ -430,8 +430,10 @@ def one_code(server, kind, port):
 
 
 def with_native(server, served, kinds, port):
-    if not (ROOT / "c/out/duel").is_file() or run(["/usr/bin/python3", "-c", "import aiortc"]).returncode:
-        skip("a page and a native game by a code (no c/out/duel with a lobby, or no python3-aiortc)")
+    duel = ROOT / "c/out/duel"
+    has_codes = duel.is_file() and "has no codes" not in run([duel, "--join", "nonsense"]).stdout
+    if not has_codes or run(["/usr/bin/python3", "-c", "import aiortc"]).returncode:
+        skip("a page and a native game by a code (no c/out/duel with codes: make -C c duel, or no python3-aiortc)")
         return
     for at, kind in enumerate(kinds):
         wrong_signs(server, served, kind, port)
