@@ -225,7 +225,10 @@ function reactToLobby(event, lobby) {
     at("asking").textContent = `${event.name} wants to join, and sees ${event.text}.`;
   }
   if (isAsked || event.who === asking?.who) show("asks", isAsked);
-  if (event.what === "ended") openMeet();
+  if (event.what === "ended") {
+    lobby.close();
+    openMeet();
+  }
   if (event.what !== "ready") return;
   const { me, number: matchNumber, channels } = lobby.match;
   meeting.number = matchNumber;

@@ -1,6 +1,6 @@
-// What of libsodium WebCrypto lacks: BLAKE2b (RFC 7693), XChaCha20-Poly1305 (RFC 8439, and the draft for its longer nonce), and sealed
-// boxes, which are of XSalsa20-Poly1305. Nothing here depends on a secret in which way it goes; but the numbers of Poly1305 are
-// JavaScript's, which don't promise to take as long for each value.
+// What WebCrypto lacks of libsodium's: BLAKE2b (RFC 7693), XChaCha20-Poly1305 (RFC 8439, and the draft for its longer nonce), and
+// sealed boxes, which are of XSalsa20-Poly1305. No secret decides which way the code goes; but JavaScript's large numbers, of which
+// Poly1305 and BLAKE2b are made here, don't promise to take as long for each value.
 import { bytesOf, joined } from "./bytes.js";
 
 // ---- BLAKE2b

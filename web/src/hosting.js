@@ -19,7 +19,6 @@ const MOST_GUESTS = 16;
 
 export class Host {
   constructor(lobby, { isShort = false, asks = false, players = 2, common = new Uint8Array(0) }) {
-    if (!(players >= 2 && players <= 8)) throw new Error("a match has 2 to 8 players");
     Object.assign(this, { lobby, isShort, asks: asks || isShort, players, common });
     Object.assign(this, { guests: new Map(), knockers: new Map(), gone: [], named: 0 });
     Object.assign(this, { plate: "", wrong: 0, isTold: false, proofs: 0 });

@@ -16,7 +16,7 @@ const Stage = { ASKS_DOOR: 0, KNOCKS: 1, SAYS_HELLO: 2, ASKS_TO_JOIN: 3, HAS_TAB
 export class Guest {
   constructor(lobby, { code = null, plate = null, secret = null }) {
     Object.assign(this, { lobby, code, plate, secret, stage: Stage.SAYS_HELLO, pake: null, knock: null, host: null, hostName: null });
-    Object.assign(this, { isSeated: false, isAsked: false, counter: 0, answers: 0, saidAt: null, heardAt: null });
+    Object.assign(this, { isSeated: false, isAsked: false, counter: 0, answers: 0, saidAt: null, heardAt: lobby.now });
   }
 
   async begin() {

@@ -9,7 +9,7 @@ import { Host } from "./hosting.js";
 import { INBOX, Pair, drawKeys, readCode } from "./keys.js";
 import { Line } from "./line.js";
 import { PAGE, REASONS, Why } from "./reasons.js";
-import { KINDS, cleanName, inboxSubject, readSignal, writeSignal } from "./messages.js";
+import { KINDS, MOST_COMMON, MOST_PLAYERS, cleanName, inboxSubject, readSignal, writeSignal } from "./messages.js";
 
 export { Why };
 
@@ -30,6 +30,9 @@ function addressOf(text) {
 export class Lobby {
   /** Opens a lobby as its host. Its code is told as an event. */
   static host(how) {
+    const { players = 2, common = new Uint8Array(0) } = how;
+    if (!(players >= 2 && players <= MOST_PLAYERS)) throw new Error("a match has 2 to 8 players");
+    if (common.length > MOST_COMMON) throw new Error("what is handed to all is too long");
     return new Lobby(how, null);
   }
 
@@ -85,7 +88,11 @@ export class Lobby {
   }
 
   tell(what, more = {}) {
-    this.told({ what, ...more });
+    try {
+      this.told({ what, ...more });
+    } catch (why) {
+      reportError(why); // (it is the page's own, and isn't to be lost here)
+    }
   }
 
   end(why, text = REASONS[why] ?? REASONS[Why.NO_REASON]) {

@@ -10,7 +10,7 @@ export const MOST_PLAYERS = 8;
 const CODE = 16;
 const NOBODY = 255; // whose a place is that no player has
 const NAME_ROOM = 32;
-const MOST_COMMON = 4096;
+export const MOST_COMMON = 4096;
 const MOST_KNOCK = 2048;
 const FLAGS = { LASTS: 1, ASKS: 2, LATE: 4 };
 

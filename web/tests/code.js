@@ -1,6 +1,6 @@
 // A machine that meets another one by a code, for tests: `?name=..&broker=ws://..` hosts, and leaves its code in the server's mailbox as
 // NAME-code; with `&join=CODE` it joins. Then it plays `frames`, or sends 60 datagrams if there are none, and posts what came of it as
-// its `name`.
+// its `name`. A player may look at the page for a while before that: `after` milliseconds.
 import { Lobby } from "/site/fazgrond/lobby.js";
 
 const BEGAN = performance.now();
@@ -75,6 +75,7 @@ async function play({ me, number: matchNumber, channels }) {
 }
 
 async function run() {
+  await new Promise((resolve) => setTimeout(resolve, number("after")));
   const lobby = await met();
   const { me, machines, names } = lobby.match;
   const channel = lobby.match.channels[me === 0 ? 1 : 0];

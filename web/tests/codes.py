@@ -119,6 +119,15 @@ def long_codes(server, served, pairs):
         print(f"{' with '.join(kinds)}: by a long code {taken(found[1])} ms", flush=True)
 
 
+def late_friends(server, served, kind):
+    """Friends whose page has been open for longer than anybody waits for an answer."""
+    for what, of_host in [("long", {"door": 1}), ("short", {"short": 1})]:
+        with pages((kind, url_of(server, served, f"late-{what}", **of_host))):
+            found = joins(server, served, kind, f"late-friend-{what}", code_of(server, f"late-{what}"), after=11000)
+        check(f"who joins late by a {what} code in {kind}", max(found.get("came", [0])) >= 60, str(found))
+        server.post.clear(f"late-{what}-code-1")
+
+
 def relayed(server, served, pairs):
     """Through the relay alone, with the door's tickets."""
     for kinds in pairs:
@@ -447,7 +456,8 @@ def by_codes(server, kinds, port):
         return
     both = [(one, other) for at, one in enumerate(kinds) for other in kinds[at:]]
     for part in [lambda served: short_codes(server, served, both), lambda served: long_codes(server, served, both),
-                 lambda served: relayed(server, served, both), lambda served: three_pages(server, served, kinds),
+                 lambda served: relayed(server, served, both), lambda served: late_friends(server, served, kinds[0]),
+                 lambda served: three_pages(server, served, kinds),
                  lambda served: [wrong_codes(server, served, kind) for kind in kinds],
                  lambda served: with_native(server, served, kinds, port + 8),
                  lambda served: [whole_page(server, served, it) for it in both],
