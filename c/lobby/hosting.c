@@ -212,6 +212,12 @@ static void take_in(faz_lobby *self, guest *one) {
     }
 }
 
+/* A page of the same game can't come in, and the player is told. */
+static void refuse_page(faz_lobby *self, guest *one) {
+    refuse(one, FAZ_LOBBY_A_PAGE);
+    lobby_tell(self, FAZ_LOBBY_REFUSED, FAZGROND_NO_MACHINE, one->name)->why = FAZ_LOBBY_A_PAGE;
+}
+
 static void note_ask(faz_lobby *self, guest *one, const ask *came) {
     one->counter = came->counter;
     one->heard_at = self->now;
@@ -219,7 +225,9 @@ static void note_ask(faz_lobby *self, guest *one, const ask *came) {
         return;
     one->here = came->here;
     strcpy(one->name, came->name);
-    if (came->digest != self->digest) {
+    if (came->digest == (self->digest ^ LOBBY_PAGE)) {
+        refuse_page(self, one);
+    } else if (came->digest != self->digest) {
         one->who = ++self->hosting.named;
         refuse(one, FAZ_LOBBY_OTHER_GAME);
     } else {

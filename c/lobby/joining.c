@@ -47,6 +47,7 @@ static const char *const REASONS[] = {
     [FAZ_LOBBY_SYSTEM] = "the host's system said no",
     [FAZ_LOBBY_WRONG_CODE] = "the code's last four signs are wrong",
     [FAZ_LOBBY_TOO_MANY] = "the door was asked too often from this address: try later",
+    [FAZ_LOBBY_A_PAGE] = "the host plays in a browser, and this game doesn't: web/bridge joins it for this one",
 };
 
 /* Nobody hears the host's subject. It may be away for a moment, if it was there before. */
@@ -171,7 +172,7 @@ static void hear_answer(faz_lobby *self, const broker_message *message) {
     joins->answers = came.counter;
     joins->heard_at = self->now;
     if (came.what == REFUSED) {
-        lobby_end(self, came.why, REASONS[came.why <= FAZ_LOBBY_TOO_MANY ? came.why : FAZ_LOBBY_NO_REASON]);
+        lobby_end(self, came.why, REASONS[came.why <= FAZ_LOBBY_A_PAGE ? came.why : FAZ_LOBBY_NO_REASON]);
         return;
     }
     if (came.what == WAITS && !joins->is_asked) {

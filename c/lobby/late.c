@@ -176,7 +176,7 @@ static void hear_ask(faz_lobby *self, const broker_message *message, const uint8
     if (came.leaves && !one->is_placed)
         forget(self, one);
     else if (came.digest != self->digest)
-        refuse(self, one, FAZ_LOBBY_OTHER_GAME);
+        refuse(self, one, came.digest == (self->digest ^ LOBBY_PAGE) ? FAZ_LOBBY_A_PAGE : FAZ_LOBBY_OTHER_GAME);
     else
         tell(self, one);
 }

@@ -75,8 +75,9 @@ typedef enum faz_lobby_what {
     FAZ_LOBBY_SILENT,  /* nothing comes from a machine for a second: another way is looked for */
     FAZ_LOBBY_BLOCKED, /* no way to a machine was found in six seconds; it is looked for again and again */
     FAZ_LOBBY_ENDED,   /* it won't come to a match: `why`, and in words `text` */
-    FAZ_LOBBY_COMES    /* in a match that `lasts`: a machine that was silent is `name`'s from now on, who has come back or is new.
+    FAZ_LOBBY_COMES,   /* in a match that `lasts`: a machine that was silent is `name`'s from now on, who has come back or is new.
                         * The line to it is another one, with another number */
+    FAZ_LOBBY_REFUSED  /* at the host: `name` can't join, for `why`: FAZ_LOBBY_A_PAGE. The player is told, since friends may wonder */
 } faz_lobby_what;
 
 typedef enum faz_lobby_why {
@@ -89,7 +90,8 @@ typedef enum faz_lobby_why {
     FAZ_LOBBY_OTHER_LIBRARY, /* the host speaks another version of what is said in a lobby */
     FAZ_LOBBY_SYSTEM,        /* no memory, or no socket */
     FAZ_LOBBY_WRONG_CODE,    /* the last four signs of a short code are wrong, or who answers doesn't know them */
-    FAZ_LOBBY_TOO_MANY       /* the door was asked too often from this address: later */
+    FAZ_LOBBY_TOO_MANY,      /* the door was asked too often from this address: later */
+    FAZ_LOBBY_A_PAGE         /* the host's game is a page in a browser, and this one isn't: they have no line with each other */
 } faz_lobby_why;
 
 typedef struct faz_lobby_event {

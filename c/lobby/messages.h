@@ -15,6 +15,10 @@ enum {
     SIGNAL_HEAD = 2 /* bytes before what is sealed of a signal: its kind, and the machine it is of */
 };
 
+/* A page in a browser says so by its digest, which is that of its game with these bits the other way round. It speaks as machines
+ * do here, but its lines are others. */
+#define LOBBY_PAGE UINT64_C(0x66617a2d70616765)
+
 /* The first byte of a message. */
 typedef enum message_kind {
     KNOCK = 'k',

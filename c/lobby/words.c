@@ -90,6 +90,7 @@ void lobby_words_of(const faz_lobby_event *event, char *out, size_t room) {
     case FAZ_LOBBY_SILENT: snprintf(out, room, "machine %u is silent: another way is looked for", (unsigned)event->machine); break;
     case FAZ_LOBBY_BLOCKED: snprintf(out, room, "no way to machine %u was found so far", (unsigned)event->machine); break;
     case FAZ_LOBBY_COMES: snprintf(out, room, "%s comes as machine %u", name, (unsigned)event->machine); break;
+    case FAZ_LOBBY_REFUSED: snprintf(out, room, "%s can't join: that is a page in a browser, and this game isn't", name); break;
     case FAZ_LOBBY_ENDED: snprintf(out, room, "%s", text); break;
     }
 }

@@ -1,14 +1,17 @@
-// The page: two players meet by texts that they send each other, and play; or a match is watched.
+// The page: two players meet by a code, or by texts that they send each other, and play; or a match is watched.
 //
 // Behind the address, for trials: `?bot=5` flies the ship, `frames=1800` ends the match there and shows the state, `delay=2`,
-// `lag=50`, `loss=10`, `timeout=5000` and `speed=4` are as those of c/out/duel.
+// `lag=50`, `loss=10`, `timeout=5000` and `speed=4` are as those of c/out/duel. `?broker=URL&host` hosts at once, and
+// `?broker=URL&join=CODE` joins; `name=Anna`, `long` and `relay` are what the fields say.
 import { Code, Fazgrond } from "./fazgrond/fazgrond.js";
+import { Lobby } from "./fazgrond/lobby.js";
 import { Match, eachTurn } from "./match.js";
 import { Meeting, serversOf } from "./meet.js";
 import { Bot, FIRE, LEFT, RIGHT, THRUST, WatchedDuel, opening, text } from "./rules.js";
 import { Watched } from "./fazgrond/watch.js";
 import { draw } from "./draw.js";
 
+const DIGEST = 0x6475656c00000001n; // that of c/duel/online.c: keeps other games out, and other rules
 const KEYS = { ArrowUp: THRUST, ArrowLeft: LEFT, ArrowRight: RIGHT, Space: FIRE };
 const at = (id) => document.getElementById(id);
 const options = new URLSearchParams(location.search);
@@ -146,9 +149,8 @@ addEventListener("pagehide", () => {
 // ---- Meeting.
 
 function openMeet() {
-  for (const id of ["invitation", "their-answer", "their-invitation", "answer"]) at(id).value = "";
-  show("invited", false);
-  show("accepted", false);
+  for (const id of ["invitation", "their-answer", "their-invitation", "answer", "their-code"]) at(id).value = "";
+  for (const id of ["invited", "accepted", "hosted", "asks"]) show(id, false);
   show("meet", true);
 }
 
@@ -193,6 +195,94 @@ on("accept", async () => {
 
 for (const id of ["invitation", "answer"]) on(`copy-${id}`, () => navigator.clipboard.writeText(at(id).value));
 
+// ---- Meeting by a code.
+
+let asking = null; // who waits for an answer of this player's
+
+/** What a lobby tells, in words; what needs none isn't there. */
+const LOBBY_SAYINGS = {
+  code: () => "waiting for the other player",
+  away: ({ text }) => `waiting: ${text}`,
+  asks: ({ name, text, who }) => (who === undefined ? `${name} is asked; both see ${text}` : `${name} wants to join`),
+  joined: ({ name, text }) => `with ${name}: both see ${text}`,
+  left: ({ name }) => `${name} has left`,
+  refused: ({ text }) => text,
+  full: () => "looking for a way to the other one ..",
+  blocked: () => "no way to the other one was found so far",
+  up: ({ text }) => `the line is up: ${text}`,
+  ended: ({ text }) => text,
+};
+
+function reactToLobby(event, lobby) {
+  if (LOBBY_SAYINGS[event.what] !== undefined) tell(LOBBY_SAYINGS[event.what](event));
+  if (event.what === "code") {
+    at("code").textContent = event.text;
+    show("hosted", true);
+  }
+  const isAsked = event.what === "asks" && event.who !== undefined;
+  if (isAsked) {
+    asking = { lobby, who: event.who };
+    at("asking").textContent = `${event.name} wants to join, and sees ${event.text}.`;
+  }
+  if (isAsked || event.who === asking?.who) show("asks", isAsked);
+  if (event.what === "ended") {
+    lobby.close();
+    openMeet();
+  }
+  if (event.what !== "ready") return;
+  const { me, number: matchNumber, channels } = lobby.match;
+  meeting.number = matchNumber;
+  begin(me, channels[1 - me]);
+}
+
+/** What the fields say. */
+function lobbySettings() {
+  for (const id of ["meet-broker", "player", "servers"]) localStorage.setItem(id, at(id).value);
+  const servers = serversOf(at("servers").value);
+  return {
+    broker: at("meet-broker").value.trim(), name: at("player").value, digest: DIGEST, hasDoor: true,
+    isShort: !at("long-code").checked, servers: servers.length > 0 ? servers : null, relayOnly: at("relay-only").checked,
+  };
+}
+
+function openLobby(open) {
+  meeting?.close();
+  openMeet();
+  let lobby = null;
+  const mine = { close: () => lobby?.close() };
+  lobby = open({ ...lobbySettings(), told: (event) => meeting === mine && match === null && reactToLobby(event, lobby) });
+  meeting = mine;
+  tell("looking for the broker ..");
+}
+
+function host() {
+  openLobby((settings) => Lobby.host(settings));
+}
+
+function join() {
+  const code = at("their-code").value;
+  openLobby((settings) => Lobby.join(code, settings));
+}
+
+on("host", host);
+on("join", join);
+on("let-in", () => asking.lobby.letIn(asking.who, true));
+on("say-no", () => {
+  asking.lobby.letIn(asking.who, false);
+  show("asks", false);
+});
+on("copy-code", () => navigator.clipboard.writeText(at("code").textContent));
+
+/** What the address says. */
+function openByAddress() {
+  for (const [name, id] of [["broker", "meet-broker"], ["name", "player"], ["join", "their-code"]])
+    if (options.has(name)) at(id).value = options.get(name);
+  at("long-code").checked = options.has("long");
+  at("relay-only").checked = options.has("relay");
+  if (options.has("host")) host();
+  if (options.has("join")) join();
+}
+
 // ---- Watching.
 
 on("watch", () => {
@@ -222,12 +312,13 @@ on("watch", () => {
 
 // ---- The begin.
 
-at("servers").value = localStorage.getItem("servers") ?? "";
+for (const id of ["meet-broker", "player", "servers"]) at(id).value = localStorage.getItem(id) ?? "";
 draw(at("canvas"), opening(2), 0, []);
 try {
   library = await Fazgrond.load();
   tell(`library ${library.version}`);
   openMeet();
+  openByAddress();
 } catch (why) {
   tell(why.message);
 }

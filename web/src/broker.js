@@ -1,16 +1,18 @@
-// A broker (NATS with JetStream) through its WebSocket door: what a viewer of matches needs of it.
+// A broker (NATS) through its WebSocket door: a connection, and what a viewer of matches needs of it (JetStream).
+import { drawn, hex, joined, textBytes } from "./bytes.js";
 
 const WAIT = 2000;
 const AGAIN = 500;
+const MOST_UNANSWERED = 3;
 
-/** A connection, which is made anew as often as it breaks. */
-export class Broker {
-  /** `heard` is given what comes for `subject` by itself: a Uint8Array each. */
-  constructor({ url, user, password, subject, heard }) {
-    Object.assign(this, { url, user, password, subject, heard });
-    this.inbox = `_INBOX.${Array.from(crypto.getRandomValues(new Uint8Array(12)), (it) => it.toString(16).padStart(2, "0")).join("")}`;
-    this.asked = 0;
-    this.waiting = new Map();
+/** A connection, which is made anew as often as it breaks. What is said while it isn't there is lost. */
+export class Connection {
+  /** `heard` is given each message: its subject, where it may be answered, its status if that is all of it, its head and its body;
+   * and `there` is called once there is a connection. */
+  constructor({ url, user, password, heard, there = () => {} }) {
+    Object.assign(this, { url, user, password, heard, there });
+    this.subjects = new Map(); // by their numbers
+    this.subscribed = 0;
     this.isClosed = false;
     /** Why there is no connection, in words; null if there is one. */
     this.why = "no broker is there yet";
@@ -23,22 +25,55 @@ export class Broker {
     socket.binaryType = "arraybuffer";
     this.read = new Uint8Array(0);
     this.socket = socket;
+    this.unanswered = 0; // PINGs
+    this.isGreeted = false;
     socket.onmessage = ({ data }) => this.take(socket, new Uint8Array(data));
-    socket.onclose = () => {
-      if (this.why === null) this.why = "the broker is gone";
-      setTimeout(() => this.connect(), AGAIN);
-    };
+    socket.onclose = () => this.renew(socket);
+  }
+
+  renew(socket) {
+    if (socket !== this.socket) return;
+    this.socket = null;
+    if (this.why === null) this.why = "the broker is gone";
+    setTimeout(() => this.connect(), AGAIN);
+  }
+
+  /** Looks whether the broker is still there, since nobody tells if a network is gone: to be called every few seconds. */
+  look() {
+    if (this.unanswered++ < MOST_UNANSWERED) {
+      this.say("PING\r\n");
+      return;
+    }
+    const { socket } = this;
+    socket?.close();
+    this.renew(socket);
   }
 
   close() {
     this.isClosed = true;
-    this.socket.onmessage = null;
-    this.socket.close();
-    for (const { resolve } of this.waiting.values()) resolve(null);
+    const { socket } = this;
+    this.socket = null;
+    socket?.close();
   }
 
-  say(text) {
-    if (this.socket.readyState === WebSocket.OPEN) this.socket.send(new TextEncoder().encode(text));
+  say(text, body = new Uint8Array(0), end = "") {
+    if (this.socket?.readyState === WebSocket.OPEN) this.socket.send(joined(textBytes(text), body, textBytes(end)));
+  }
+
+  /** Says something; who hears it may answer at `reply`, if that isn't null. */
+  publish(subject, reply, body) {
+    this.say(`PUB ${subject} ${reply === null ? "" : `${reply} `}${body.length}\r\n`, body, "\r\n");
+  }
+
+  /** Hears a subject from now on. The number that comes back is for `leave`. */
+  hear(subject) {
+    this.subjects.set(++this.subscribed, subject);
+    if (this.isGreeted) this.say(`SUB ${subject} ${this.subscribed}\r\n`);
+    return this.subscribed;
+  }
+
+  leave(number) {
+    if (this.subjects.delete(number) && this.isGreeted) this.say(`UNSUB ${number}\r\n`);
   }
 
   take(socket, bytes) {
@@ -59,26 +94,62 @@ export class Broker {
     const length = end + 1 - from;
     if (kind === "PING") this.say("PONG\r\n");
     if (kind === "INFO") this.greet();
-    if (kind === "PONG") this.why = null;
+    if (kind === "PONG") this.answered();
     if (kind === "-ERR") this.why = `the broker says: ${words.join(" ")}`;
     if (kind !== "MSG" && kind !== "HMSG") return length;
     const size = Number(words.at(-1));
-    const head = kind === "HMSG" ? Number(words.at(-2)) : 0;
+    const front = kind === "HMSG" ? Number(words.at(-2)) : 0;
     if (all.length < end + 1 + size + 2) return 0;
     const body = all.slice(end + 1, end + 1 + size);
-    this.message(words[0], new TextDecoder().decode(body.subarray(0, head)), body.subarray(head));
+    const head = new TextDecoder().decode(body.subarray(0, front));
+    const hasReply = words.length === (kind === "HMSG" ? 5 : 4);
+    this.heard({ subject: words[0], reply: hasReply ? words[2] : null, head, body: body.subarray(front) });
     return length + size + 2;
+  }
+
+  answered() {
+    const isNew = this.why !== null;
+    Object.assign(this, { why: null, unanswered: 0 });
+    if (isNew) this.there();
   }
 
   greet() {
     const told = { verbose: false, pedantic: false, headers: true, no_responders: true, lang: "js", version: "1" };
     Object.assign(told, { user: this.user, pass: this.password });
-    this.say(`CONNECT ${JSON.stringify(told)}\r\nSUB ${this.inbox}.* 1\r\nSUB ${this.subject} 2\r\nPING\r\n`);
+    const subjects = Array.from(this.subjects, ([number, subject]) => `SUB ${subject} ${number}\r\n`);
+    this.isGreeted = true;
+    this.say(`CONNECT ${JSON.stringify(told)}\r\n${subjects.join("")}PING\r\n`);
+  }
+}
+
+/** Whether it says that nobody hears what was asked. */
+export const isNobody = ({ head }) => /^NATS\/1\.0 503/.test(head);
+
+/** The broker of published matches. */
+export class Broker {
+  /** `heard` is given what comes for `subject` by itself: a Uint8Array each. */
+  constructor({ url, user, password, subject, heard }) {
+    this.inbox = `_INBOX.${hex(drawn(12))}`;
+    this.asked = 0;
+    this.waiting = new Map();
+    this.connection = new Connection({ url, user, password, heard: (it) => this.message(it, heard) });
+    this.connection.hear(`${this.inbox}.*`);
+    this.connection.hear(subject);
   }
 
-  message(subject, head, body) {
+  /** Why there is no connection, in words; null if there is one. */
+  get why() {
+    return this.connection.why;
+  }
+
+  close() {
+    this.connection.close();
+    for (const { resolve } of this.waiting.values()) resolve(null);
+  }
+
+  message({ subject, head, body }, heard) {
     if (!subject.startsWith(this.inbox)) {
-      this.heard(body);
+      heard(body);
       return;
     }
     const one = this.waiting.get(subject);
@@ -96,7 +167,7 @@ export class Broker {
       this.waiting.set(reply, { resolve });
       setTimeout(() => resolve(null), WAIT);
     });
-    this.say(`PUB $JS.API.DIRECT.GET.FAZ ${reply} ${new TextEncoder().encode(text).length}\r\n${text}\r\n`);
+    this.connection.publish("$JS.API.DIRECT.GET.FAZ", reply, new TextEncoder().encode(text));
     const found = await answer;
     this.waiting.delete(reply);
     return found;

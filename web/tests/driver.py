@@ -17,7 +17,11 @@ WAIT = 180
 
 
 class Driver:
-    """A browser of its own, with one tab, until the block ends. Both take the commands of WebDriver."""
+    """A browser of its own, with one tab, until the block ends. Both take the commands of WebDriver. With `believes` it takes any
+    certificate."""
+
+    def __init__(self, believes=False):
+        self.believes = believes
 
     def __enter__(self):
         try:
@@ -106,7 +110,7 @@ class Chromium(Driver):
                 self.url = f"http://127.0.0.1:{found.group(1)}"
                 break
         options = {"binary": shutil.which("chromium"), "args": CHROMIUM}
-        wanted = {"capabilities": {"alwaysMatch": {"browserName": "chrome", "goog:chromeOptions": options}}}
+        wanted = {"capabilities": {"alwaysMatch": {"browserName": "chrome", "acceptInsecureCerts": self.believes, "goog:chromeOptions": options}}}
         self.session = self.call("POST", "/session", wanted)["sessionId"]
 
     def end(self):
@@ -146,7 +150,7 @@ class Firefox(Driver):
         self.answers = self.line.makefile("rb")
         self.count = 0
         self.read()
-        self.command("NewSession", capabilities={})
+        self.command("NewSession", capabilities={"alwaysMatch": {"acceptInsecureCerts": self.believes}})
 
     def end(self):
         if self.line is not None:
@@ -172,5 +176,5 @@ class Firefox(Driver):
         return answer["value"] if isinstance(answer, dict) and "value" in answer else answer
 
 
-def driver(kind):
-    return {"chromium": Chromium, "firefox": Firefox}[kind]()
+def driver(kind, believes=False):
+    return {"chromium": Chromium, "firefox": Firefox}[kind](believes)

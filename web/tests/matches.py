@@ -43,11 +43,10 @@ def words_of_bot(seed, player, count, delay):
 
 
 def expected(seed, frames, delays=(1, 1)):
-    """The state of rollduel, with the bots' words; None if it isn't there."""
+    """The state of rollduel, with the bots' words, or without delays of c/out/duel in one process; None if neither is there."""
     rollduel = Path(os.environ.get("FAZGROND_ROLLDUEL") or ROOT / "crates/rollduel/out/rollduel")
     if not rollduel.is_file():
-        skip(f"the state beside rollduel's (no {rollduel.name})")
-        return None
+        return alone(seed, frames) if delays == (0, 0) else skip(f"the state beside rollduel's (no {rollduel.name})")
     rows = zip(*(words_of_bot(seed, player, frames, delay) for player, delay in zip([1, 2], delays)))
     lines = ["roll 1 players 2 local 1 delay 0,0 threshold 8"]
     for frame, (one, other) in enumerate(rows):
@@ -57,6 +56,15 @@ def expected(seed, frames, delays=(1, 1)):
         script.flush()
         said = run([rollduel, "play", "--game", "duel", script.name]).stdout
     return re.findall(r"^frame .* state (.*)$", said, re.M)[-1]
+
+
+def alone(seed, frames):
+    """The state of c/out/duel, with both ships in one program, whose words are for the frame in which they are given."""
+    duel = ROOT / "c/out/duel"
+    if not duel.is_file():
+        return skip("the state beside rollduel's, or that of c/out/duel (neither is here)")
+    words = ["--headless", "--speed", 100, "--synctest", 1, "--bot", seed, "--frames", frames, 0, "local", "local"]
+    return re.findall(r"^frame .* state (.*)$", run([duel, *words]).stdout, re.M)[-1]
 
 
 def play_url(server, room, me, **more):

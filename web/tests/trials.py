@@ -8,6 +8,7 @@ import time
 from pathlib import Path
 
 from checks import ROOT, WEB, check, has, run, skip
+from codes import by_codes
 from driver import driver
 from matches import expected, pages, play_url, result, two_pages
 
@@ -279,6 +280,10 @@ def port_of(at):
     return 20000 + os.getpid() % 1000 * 32 + 8 * at
 
 
+def codes(server, kinds):
+    by_codes(server, driven(kinds, "a page by a code"), port_of(0))
+
+
 def all_bridged(server, kinds):
     for at, (kind, invites) in enumerate((kind, invites) for kind in kinds for invites in [False, True]):
         bridged(server, kind, invites, port_of(at))
@@ -298,4 +303,5 @@ TRIALS = {
     "page": whole_pages,
     "bridge": all_bridged,
     "watch": all_watched,
+    "code": codes,
 }

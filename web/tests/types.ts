@@ -1,6 +1,8 @@
 // A game in TypeScript, as the compiler has to take it; and what it has to refuse.
 import { Answer, Code, Fazgrond, Refusal, raw } from "fazgrond";
 import type { Game, Job, Row, Session } from "fazgrond";
+import { Lobby, Why } from "fazgrond/lobby.js";
+import type { LobbyEvent } from "fazgrond/lobby.js";
 import { Watched } from "fazgrond/watch.js";
 import type { WatchedGame } from "fazgrond/watch.js";
 
@@ -57,6 +59,21 @@ export function look(library: Fazgrond, game: WatchedGame): boolean {
   const watched = new Watched(library, { url: "wss://watch.example:4280", user: "viewer", password: "viewer", match: "cup", game });
   watched.turn();
   return watched.hasEnded;
+}
+
+export function met(code: string | null): Lobby {
+  const how = {
+    broker: "wss://broker.example:4224", digest: 7n, name: "Anna", isShort: true,
+    told: (event: LobbyEvent) => {
+      if (event.what === "asks" && event.who !== undefined) lobby.letIn(event.who, true);
+      if (event.what === "ended" && event.why === Why.WRONG_CODE) console.log(event.text);
+      if (event.what === "ready") lobby.match?.channels[1 - lobby.match.me]?.close();
+    },
+  };
+  const lobby = code === null ? Lobby.host(how) : Lobby.join(code, how);
+  // @ts-expect-error: a broker has to be named
+  if (code === "") Lobby.host({ digest: 7n });
+  return lobby;
 }
 
 export function refused(library: Fazgrond, session: Session<Int32Array>): void {

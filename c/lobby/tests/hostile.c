@@ -12,7 +12,7 @@
 #include <string.h>
 #include <time.h>
 
-enum { LOBBIES = 4, KEPT = 4096, WHATS = FAZ_LOBBY_COMES + 1 };
+enum { LOBBIES = 4, KEPT = 4096, WHATS = FAZ_LOBBY_REFUSED + 1 };
 
 static struct {
     const char *url;

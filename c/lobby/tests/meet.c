@@ -56,9 +56,9 @@ static long millis(void) {
     return (long)((micros() - self.begun) / 1000);
 }
 
-static const char *const WHATS[] = {"code", "away", "asks", "joined", "left", "full", "up", "silent", "blocked", "ended", "comes"};
+static const char *const WHATS[] = {"code", "away", "asks", "joined", "left", "full", "up", "silent", "blocked", "ended", "comes", "refused"};
 static const char *const WHYS[] = {"-", "no-such-code", "no-seat", "other-game", "not-let-in", "host-left", "other-library", "system",
-                                   "wrong-code", "too-many"};
+                                   "wrong-code", "too-many", "a-page"};
 
 static void tell_events(void) {
     faz_lobby_event event;

@@ -1,0 +1,388 @@
+"""Joins a page's lobby by a code, for web/bridge: it speaks as c/lobby does, over a NATS broker, and says that it is a page. What is
+sealed is sealed by libsodium, and short codes are proved by GnuTLS, both of which lie where aiortc does (Debian's libsodium23 and
+libgnutls30)."""
+import asyncio
+import ctypes
+import hashlib
+import json
+import os
+import struct
+import urllib.parse
+
+SIGNS = "0123456789ABCDEFGHJKMNPQRSTVWXYZ"
+PAGE = 0x66617A2D70616765
+KEY, INBOX, NONCE, SEAL = 32, 16, 24, 40
+WAITS, SEATED, BEGINS, REFUSED = range(4)
+REASONS = ["the host said no", "nobody hosts a match with this code now", "all seats are taken",
+           "the host plays another game, or another version of it", "the host's player said no", "the host has left",
+           "the host's game has another version of this library", "the host's system said no", "the code's last four signs are wrong",
+           "the door was asked too often from this address: try later",
+           "the host doesn't play in a browser: a native game joins it by --join of its own"]
+# Seconds: between two messages, and without an answer.
+AGAIN, PATIENCE = 0.5, 10
+
+
+class Failed(Exception):
+    pass
+
+
+def library(*names):
+    for name in names:
+        try:
+            return ctypes.CDLL(name)
+        except OSError:
+            pass
+    raise Failed(f"there is no {names[0]}")
+
+
+# ---- what is sealed
+
+class Sodium:
+    def __init__(self):
+        self.calls = library("libsodium.so.23", "libsodium.so.26", "libsodium.so")
+        if self.calls.sodium_init() < 0:
+            raise Failed("the system gives no random numbers")
+
+    def seal(self, key, data, more):
+        nonce, out = os.urandom(NONCE), ctypes.create_string_buffer(len(data) + SEAL - NONCE)
+        self.calls.crypto_aead_xchacha20poly1305_ietf_encrypt(
+            out, None, data, ctypes.c_ulonglong(len(data)), more, ctypes.c_ulonglong(len(more)), None, nonce, key)
+        return nonce + out.raw
+
+    def open(self, key, data, more):
+        """What was sealed; None if nobody with the key has sealed this."""
+        if len(data) < SEAL:
+            return None
+        out, rest = ctypes.create_string_buffer(max(len(data) - SEAL, 1)), data[NONCE:]
+        wrong = self.calls.crypto_aead_xchacha20poly1305_ietf_decrypt(
+            out, None, None, rest, ctypes.c_ulonglong(len(rest)), more, ctypes.c_ulonglong(len(more)), data[:NONCE], key)
+        return None if wrong else out.raw[:len(data) - SEAL]
+
+    def keys(self):
+        """A key to be shown, and its secret."""
+        shown, secret = ctypes.create_string_buffer(KEY), os.urandom(KEY)
+        self.calls.crypto_scalarmult_base(shown, secret)
+        return shown.raw, secret
+
+    def shared(self, secret, theirs):
+        out = ctypes.create_string_buffer(KEY)
+        if self.calls.crypto_scalarmult(out, secret, theirs):
+            raise ValueError("this is no key")
+        return out.raw
+
+    def vouched(self, proof, host, speaks):
+        text = b"fazgrond speaks 1\0" + speaks
+        return not self.calls.crypto_sign_verify_detached(proof, text, ctypes.c_ulonglong(len(text)), host)
+
+    def open_box(self, keys, data):
+        out = ctypes.create_string_buffer(max(len(data) - 48, 1))
+        wrong = len(data) < 48 or self.calls.crypto_box_seal_open(out, data, ctypes.c_ulonglong(len(data)), *keys)
+        return None if wrong else out.raw[:len(data) - 48]
+
+
+def follow(what, data, length):
+    return hashlib.blake2b(what.encode() + b"\0" + data, digest_size=length).digest()
+
+
+class Pair:
+    """What two machines have, of whom each knows the other's open key."""
+
+    def __init__(self, sodium, room_key, keys, theirs):
+        self.sodium, self.ours, self.theirs = sodium, keys[0], theirs
+        both = sorted([self.ours, theirs])
+        text = b"fazgrond pair 1\0" + sodium.shared(keys[1], theirs) + both[0] + both[1]
+        self.key = hashlib.blake2b(text, key=room_key, digest_size=KEY).digest()
+
+    def words(self):
+        signs = "".join(SIGNS[it & 31] for it in follow("fazgrond words 1", self.key, INBOX)[:8])
+        return f"{signs[:4]}-{signs[4:]}"
+
+    def seal(self, kind, data):
+        return self.sodium.seal(self.key, data, kind + self.ours)
+
+    def open(self, kind, data):
+        return self.sodium.open(self.key, data, kind + self.theirs)
+
+
+class Pake:
+    """Who joins by a short code: a handshake of GnuTLS whose bytes others carry, as in c/lobby/pake.c."""
+    CLIENT, AGAIN_LATER = 1 << 1 | 1 << 3 | 1 << 6 | 1 << 10, -28
+
+    def __init__(self, name, secret):
+        self.calls, self.session, self.held = library("libgnutls.so.30", "libgnutls.so"), ctypes.c_void_p(), ctypes.c_void_p()
+        self.came, self.said = b"", b""
+        push = ctypes.CFUNCTYPE(ctypes.c_ssize_t, ctypes.c_void_p, ctypes.c_void_p, ctypes.c_size_t)
+        wait = ctypes.CFUNCTYPE(ctypes.c_int, ctypes.c_void_p, ctypes.c_uint)
+        self.kept = push(self.push), push(self.pull), wait(lambda of, time: len(self.came) > 0)
+        self.call("init", ctypes.byref(self.session), self.CLIENT)
+        self.call("priority_set_direct", self.session, b"NORMAL:-KX-ALL:+SRP:-VERS-ALL:+VERS-TLS1.2", None)
+        self.call("srp_allocate_client_credentials", ctypes.byref(self.held))
+        self.call("srp_set_client_credentials", self.held, name.encode(), secret.encode())
+        self.calls.gnutls_srp_set_prime_bits(self.session, 2048)
+        self.call("credentials_set", self.session, 3, self.held)
+        for name, function in zip(["push", "pull", "pull_timeout"], self.kept):
+            getattr(self.calls, f"gnutls_transport_set_{name}_function")(self.session, function)
+        self.calls.gnutls_handshake_set_timeout(self.session, ctypes.c_uint(-2 & 0xFFFFFFFF))
+
+    def call(self, name, *words):
+        if getattr(self.calls, f"gnutls_{name}")(*words) != 0:
+            raise Failed(f"GnuTLS has no SRP ({name})")
+
+    def push(self, of, data, length):
+        self.said += ctypes.string_at(data, length)
+        return length
+
+    def pull(self, of, room, length):
+        taken, self.came = self.came[:length], self.came[length:]
+        if not taken:
+            self.calls.gnutls_transport_set_errno(self.session, 11)
+            return -1
+        ctypes.memmove(room, taken, len(taken))
+        return len(taken)
+
+    def turn(self, came):
+        """Takes what the host said. What is to be said next; whether it is done."""
+        self.came, self.said = came, b""
+        status = self.calls.gnutls_handshake(self.session)
+        if status not in (0, self.AGAIN_LATER):
+            raise Failed(REASONS[8])
+        return self.said, status == 0
+
+    def key(self):
+        label, out = b"EXPORTER-fazgrond-code-1", ctypes.create_string_buffer(KEY)
+        self.call("prf_rfc5705", self.session, ctypes.c_size_t(len(label)), label, ctypes.c_size_t(0), None, ctypes.c_size_t(KEY), out)
+        return out.raw
+
+
+# ---- codes, and bytes that are read
+
+def read_code(text):
+    """A code's bytes, or a plate and the signs behind it."""
+    signs = "".join(text.split()).replace("-", "").upper().replace("O", "0").replace("I", "1").replace("L", "1")
+    if set(signs) - set(SIGNS) or len(signs) not in (7, 28):
+        raise Failed("this is no code: a sign of it may be wrong or missing")
+    if len(signs) == 7:
+        return signs[:3], signs[3:]
+    number = sum(SIGNS.index(it) << 5 * at for at, it in enumerate(reversed(signs)))
+    code = (number >> 12).to_bytes(16, "big")
+    if int.from_bytes(follow("fazgrond slip 1", code, 16)[:2], "big") >> 4 != number & 0xFFF:
+        raise Failed("this is no code: a sign of it may be wrong or missing")
+    return code
+
+
+class Reader:
+    def __init__(self, data):
+        self.data = data
+
+    def take(self, count):
+        if count > len(self.data):
+            raise ValueError("a message is too short")
+        taken, self.data = self.data[:count], self.data[count:]
+        return taken
+
+    def number(self, count):
+        return int.from_bytes(self.take(count), "big")
+
+    def text(self):
+        return self.take(self.number(1)).decode(errors="replace")
+
+
+def text_bytes(text):
+    return bytes([len(text.encode())]) + text.encode()
+
+
+# ---- the broker
+
+class Broker:
+    """A connection to a NATS broker: nats://HOST:PORT or tls://HOST:PORT, maybe with a user and a password."""
+
+    async def open(self, url):
+        to = urllib.parse.urlsplit(url)
+        if to.scheme not in ("nats", "tls") or to.hostname is None:
+            raise Failed("the broker's address is none: nats://HOST:PORT was expected")
+        try:
+            self.reader, self.writer = await asyncio.open_connection(to.hostname, to.port or 4222)
+            await self.reader.readline()  # (INFO)
+            if to.scheme == "tls":
+                await self.writer.start_tls(True, server_hostname=to.hostname)
+        except OSError as why:
+            raise Failed(f"the broker isn't there: {why}") from None
+        told = {"verbose": False, "pedantic": False, "headers": True, "no_responders": True, "lang": "python", "version": "1"}
+        if to.username is not None:
+            told.update(user=urllib.parse.unquote(to.username), **{"pass": urllib.parse.unquote(to.password or "")})
+        self.inbox = f"faz.in.{os.urandom(INBOX).hex()}"
+        self.writer.write(f"CONNECT {json.dumps(told)}\r\nSUB {self.inbox} 1\r\n".encode())
+
+    def say(self, subject, data, is_asked=False):
+        self.writer.write(f"PUB {subject} {f'{self.inbox} ' if is_asked else ''}{len(data)}\r\n".encode() + data + b"\r\n")
+
+    async def hear(self):
+        """The next message; None if nobody hears what was asked."""
+        while True:
+            line = (await self.reader.readline()).decode().split()
+            if not line:
+                raise Failed("the broker is gone")
+            if line[0] == "PING":
+                self.writer.write(b"PONG\r\n")
+            elif line[0] == "-ERR":
+                raise Failed(f"the broker says: {' '.join(line[1:])}")
+            elif line[0] in ("MSG", "HMSG"):
+                body = (await self.reader.readexactly(int(line[-1]) + 2))[:-2]
+                if line[0] == "HMSG" and body.startswith(b"NATS/1.0 503"):
+                    return None
+                return body[int(line[-2]):] if line[0] == "HMSG" else body
+
+    def close(self):
+        self.writer.close()
+
+
+# ---- the lobby
+
+class Lobby:
+    """One that is joined: `number`, `me`, and what the door says of servers. Signals go by `say` and `hear`."""
+
+    def __init__(self, url, name, digest, told):
+        self.url, self.name, self.digest, self.told = url, name, digest ^ PAGE, told
+        self.sodium, self.broker, self.early, self.servers, self.counter, self.reading = Sodium(), Broker(), [], [], 0, None
+        self.keys = self.sodium.keys()
+
+    async def join(self, text, has_door):
+        code = read_code(text)
+        await self.broker.open(self.url)
+        plate, secret = code if isinstance(code, tuple) else ("", "")
+        token = await self.ask_door(plate) if plate or has_door else None
+        if plate:
+            offer = await self.knock(plate, secret, f"faz.meet.{token.hex()}")
+        else:
+            name = follow("fazgrond room 1", code, INBOX).hex()
+            self.room_key = follow("fazgrond room key 1", code, KEY)
+            hello = b"h" + self.sodium.seal(self.room_key, bytes([1]) + self.keys[0], b"h")
+            offer = await self.answered(f"faz.meet.{name}", hello, b"o")
+        await self.ask(self.take_offer(offer, None if plate else code))
+
+    async def answered(self, subject, data, *kinds):
+        """What is answered of a kind, to what is said again and again."""
+        until = asyncio.get_running_loop().time() + PATIENCE
+        while asyncio.get_running_loop().time() < until:
+            self.broker.say(subject, data, True)
+            came = await self.within(AGAIN, kinds)
+            if came is not None:
+                return came
+        raise Failed("nobody who hosts a match with this code answers")
+
+    async def within(self, seconds, kinds):
+        """A message of these kinds; None if none comes in time. Signals are kept."""
+        with_end = asyncio.get_running_loop().time() + seconds
+        while True:
+            try:
+                came = await asyncio.wait_for(self.heard(), max(with_end - asyncio.get_running_loop().time(), 0))
+            except (asyncio.TimeoutError, TimeoutError):
+                return None
+            if came is None:
+                raise Failed(REASONS[1] if b"d" not in kinds else "there is no door beside this broker")
+            if came[:1] in kinds:
+                return came
+            if came[:1] == b"g":
+                self.early.append(came)
+
+    async def heard(self):
+        """The next message. A read that is given up isn't lost."""
+        self.reading = self.reading or asyncio.ensure_future(self.broker.hear())
+        came = await asyncio.shield(self.reading)
+        self.reading = None
+        return came
+
+    async def ask_door(self, plate):
+        keys = self.sodium.keys()
+        asked = bytes([1]) + (b"J" if plate else b"R") + keys[0] + text_bytes(plate) + bytes(16)
+        inside = self.sodium.open_box(keys, (await self.answered("faz.door", asked, b"d"))[1:])
+        if inside is None:
+            raise Failed("the door's answer can't be read")
+        of = Reader(inside)
+        _, says, _, token = of.number(1), of.number(1), of.text(), of.take(16)
+        if says:
+            raise Failed(REASONS[9] if says == 2 else REASONS[1])
+        stun, port = of.text(), of.number(2)
+        relays = [(of.number(1), of.number(2), of.text()) for _ in range(of.number(1))]
+        user, password = of.text(), of.text()
+        self.servers = [(f"stun:{stun}:{port}", None, None)] if stun else []
+        self.servers += [(f"turn:{host}:{number}?transport={'tcp' if tcp else 'udp'}", user, password) for tcp, number, host in relays]
+        return token
+
+    async def knock(self, plate, secret, subject):
+        pake, mine, came = Pake(plate, secret), os.urandom(INBOX), b""
+        for step in (1, 2):
+            said, _ = pake.turn(came)
+            answer = Reader(await self.answered(subject, struct.pack(">c16sBBH", b"k", mine, step, 0, len(said)) + said, b"n"))
+            answer.take(1)
+            theirs, at, wrong = answer.take(INBOX), answer.number(1), answer.number(1)
+            came = answer.take(answer.number(2))
+            if wrong or theirs != mine or at != step:
+                raise Failed(REASONS[8])
+        if not pake.turn(came)[1]:
+            raise Failed(REASONS[8])
+        self.room_key = pake.key()
+        return answer.data
+
+    def take_offer(self, data, code):
+        """The host's inbox. With a short code the key by which the offer is sealed says that it is the host's."""
+        of = Reader(self.sodium.open(self.room_key, data[1:], b"o") or b"")
+        if of.number(1) != 1:
+            raise Failed(REASONS[6])
+        host, speaks, proof, inbox = of.take(KEY), of.take(KEY), of.take(64), of.take(INBOX)
+        if not self.sodium.vouched(proof, host, speaks) or (code is not None and follow("fazgrond code 1", host, 16) != code):
+            raise Failed("who answers isn't the host of this code")
+        self.pair = Pair(self.sodium, self.room_key, self.keys, speaks)
+        return f"faz.in.{inbox.hex()}"
+
+    def asking(self):
+        self.counter += 1
+        inner = struct.pack(">IBQB", self.counter, 0, self.digest, 1) + text_bytes(self.name)
+        return b"a" + self.sodium.seal(self.room_key, self.keys[0] + self.pair.seal(b"a", inner), b"a")
+
+    async def ask(self, subject):
+        """Asks to be let in, until the match begins."""
+        says, last, heard = None, 0, asyncio.get_running_loop().time()
+        while says != BEGINS:
+            if asyncio.get_running_loop().time() - heard > PATIENCE:
+                raise Failed(REASONS[5])
+            self.broker.say(subject, self.asking(), True)
+            came = await self.within(AGAIN, (b"s",))
+            inside = None if came is None else self.pair.open(b"s", came[1:])
+            of = Reader(inside or bytes(4))
+            counter = of.number(4)
+            if inside is None or counter <= last:
+                continue
+            last, heard, before = counter, asyncio.get_running_loop().time(), says
+            says, why, name = of.number(1), of.number(1), of.text()
+            if says == REFUSED:
+                raise Failed(REASONS[why] if why < len(REASONS) else REASONS[0])
+            if says != before and says in (WAITS, SEATED):
+                self.told(f"{f'{name} is asked;' if says == WAITS else f'with {name}:'} both see {self.pair.words()}")
+        self.take_table(of)
+
+    def take_table(self, of):
+        self.me, machines, _ = of.number(1), of.number(1), of.take(9)
+        self.number, key = of.number(8), of.take(KEY)
+        of.take(1 + 16 + KEY + 64)
+        members = [(of.take(KEY), of.take(INBOX), of.text()) for _ in range(machines)]
+        if machines != 2 or self.me != 1 or members[0][0] != self.pair.theirs or members[1][0] != self.keys[0]:
+            raise Failed("this match isn't one of two, or not of this page")
+        self.pair = Pair(self.sodium, key, self.keys, members[0][0])
+        self.other = f"faz.in.{members[0][1].hex()}"
+
+    def close(self):
+        if self.reading is not None:
+            self.reading.cancel()
+        self.broker.close()
+
+    # ---- signals
+
+    def say(self, text):
+        self.broker.say(self.other, b"g" + bytes([self.me]) + self.pair.seal(b"g", text.encode()))
+
+    async def hear(self, seconds):
+        """The next signal's text, or None."""
+        came = self.early.pop(0) if self.early else await self.within(seconds, (b"g",))
+        inside = None if came is None or len(came) < 2 or came[1] != 0 else self.pair.open(b"g", came[2:])
+        return None if inside is None else inside.decode(errors="replace")
