@@ -34,9 +34,9 @@ typedef struct faz_line_keys {
     uint8_t secret[FAZ_LINE_KEY]; /* for nobody */
 } faz_line_keys;
 
-/* A TURN server. Addresses are numbers with dots or colons: a name is for you to look up, which may wait. Where it has an address of
- * IPv4 and one of IPv6, name it twice: a machine asks by what it has, and one with IPv4 alone and one with IPv6 alone are joined only by
- * a relay that is asked by both, and carries by IPv4. */
+/* A TURN server. Addresses are numbers with dots or colons: a name is for you to look up, which may wait. If it has an address of IPv4
+ * and one of IPv6, name it twice: a machine asks by those that it has itself. One with IPv6 alone and one with IPv4 alone are joined by
+ * nothing but a relay that has both. */
 typedef struct faz_line_relay {
     const char *address;
     uint16_t port;
