@@ -4,7 +4,7 @@ local ffi = require "ffi"
 if not pcall(ffi.typeof, "faz_line_keys") then -- (this may be loaded more than once)
     ffi.cdef [[
 typedef struct faz_line faz_line;
-enum { FAZ_LINE_KEY = 32, FAZ_LINE_SIGNAL = 1024, FAZ_LINE_RELAYS = 4 };
+enum { FAZ_LINE_KEY = 32, FAZ_LINE_SIGNAL = 1024, FAZ_LINE_RELAYS = 8 };
 typedef struct faz_line_keys { uint8_t open[FAZ_LINE_KEY]; uint8_t secret[FAZ_LINE_KEY]; } faz_line_keys;
 typedef struct faz_line_relay { const char *address; uint16_t port; const char *user, *password; bool by_tcp; } faz_line_relay;
 typedef struct faz_line_settings { uint32_t me, other; faz_line_keys *keys; const uint8_t *their; const char *stun; uint16_t

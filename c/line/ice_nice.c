@@ -12,6 +12,9 @@
 /* Of the other machine's candidates so many are taken, so often the context runs in a turn, and so many bytes may wait in a socket. */
 enum { CANDIDATES = 40, STEPS = 256, ROOM = 1 << 20 };
 
+/* Bytes of an address of IPv6 that say in which network it is. */
+enum { NETWORK = 8 };
+
 /* What isn't answered is sent again after so many milliseconds, after twice that, and so on, this often. */
 enum { ASKED_AGAIN = 250, TIMES = 4 };
 
@@ -156,13 +159,19 @@ ice_state ice_look(const ice *self) {
     return self->state;
 }
 
+/* Whether two addresses of IPv6 are in one network, though all the internet may reach them. */
+static bool are_neighbours(const NiceAddress *one, const NiceAddress *other) {
+    return nice_address_ip_version(one) == 6 && nice_address_ip_version(other) == 6
+        && memcmp(&one->s.ip6.sin6_addr, &other->s.ip6.sin6_addr, NETWORK) == 0;
+}
+
 faz_line_way ice_way(ice *self) {
     NiceCandidate *here = NULL, *there = NULL;
     if (!nice_agent_get_selected_pair(self->agent, self->stream, 1, &here, &there))
         return FAZ_LINE_NO_WAY;
     if (here->type == NICE_CANDIDATE_TYPE_RELAYED || there->type == NICE_CANDIDATE_TYPE_RELAYED)
         return FAZ_LINE_RELAYED;
-    return nice_address_is_private(&there->addr) ? FAZ_LINE_LAN : FAZ_LINE_DIRECT;
+    return nice_address_is_private(&there->addr) || are_neighbours(&here->addr, &there->addr) ? FAZ_LINE_LAN : FAZ_LINE_DIRECT;
 }
 
 bool ice_send(ice *self, const uint8_t *bytes, size_t length) {

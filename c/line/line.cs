@@ -9,7 +9,7 @@ public static unsafe class FazLine
 
     public const int Key = 32;
     public const int Signal = 1024;
-    public const int Relays = 4;
+    public const int Relays = 8;
 
     // faz_line_way
     public const uint NoWay = 0;
@@ -49,7 +49,7 @@ public static unsafe class FazLine
         public byte* Their;
         public byte* Stun;
         public ushort StunPort;
-        public Relay Relays0, Relays1, Relays2, Relays3;
+        public Relay Relays0, Relays1, Relays2, Relays3, Relays4, Relays5, Relays6, Relays7;
         public uint RelayCount;
         public byte RelayOnly;
         public byte AnySender;

@@ -26,7 +26,7 @@ extern "C" {
 
 typedef struct faz_line faz_line;
 
-enum { FAZ_LINE_KEY = 32, FAZ_LINE_SIGNAL = 1024, FAZ_LINE_RELAYS = 4 };
+enum { FAZ_LINE_KEY = 32, FAZ_LINE_SIGNAL = 1024, FAZ_LINE_RELAYS = 8 };
 
 /* What this machine draws for a line, anew for each. */
 typedef struct faz_line_keys {
@@ -34,7 +34,9 @@ typedef struct faz_line_keys {
     uint8_t secret[FAZ_LINE_KEY]; /* for nobody */
 } faz_line_keys;
 
-/* A TURN server. Addresses are numbers with dots or colons: a name is for you to look up, which may wait. */
+/* A TURN server. Addresses are numbers with dots or colons: a name is for you to look up, which may wait. If it has an address of IPv4
+ * and one of IPv6, name it twice: a machine asks by those that it has itself. One with IPv6 alone and one with IPv4 alone are joined by
+ * nothing but a relay that has both. */
 typedef struct faz_line_relay {
     const char *address;
     uint16_t port;
@@ -47,7 +49,8 @@ typedef struct faz_line_settings {
     uint32_t me, other;   /* machines of the match */
     faz_line_keys *keys;  /* this machine's; they are set to zeros, since a second line with them could be read by anybody */
     const uint8_t *their; /* the open key of the other machine */
-    const char *stun;     /* the address of a STUN server, which tells a machine how the internet sees it; or null */
+    const char *stun;     /* the address of a STUN server, which tells a machine how the internet sees it; or null. If it has one of
+                           * IPv4, that: by IPv6 few machines are seen otherwise than they see themselves */
     uint16_t stun_port;
     faz_line_relay relays[FAZ_LINE_RELAYS];
     uint32_t relay_count;

@@ -4,6 +4,7 @@
 #include "aside.h"
 
 #include <nats/nats.h>
+#include <sodium.h>
 #include <stdio.h>
 #include <stdlib.h>
 #include <string.h>
@@ -12,6 +13,9 @@ enum { SERVERS = 16, TEXT = 1024, HEARD = 3, KEPT = 256, KEPT_BYTES = 1 << 18 };
 
 /* Milliseconds. */
 enum { PATIENCE = 2000, AGAIN = 1000, RECONNECT = 200, PING = 2000, FLUSH = 150, LAST = 200 };
+
+/* Of a name with both families libnats takes else any. Lines go by IPv6 where they can: so the end of one family doesn't take both. */
+enum { IPV4_FIRST = 46 };
 
 /* A connection that is being made, or closed. */
 typedef struct task {
@@ -52,11 +56,9 @@ static natsStatus set_options(natsOptions *options, task *self) {
         status = natsOptions_SetSecure(options, true);
     if (status == NATS_OK && self->trusted[0] != 0)
         status = natsOptions_LoadCATrustedCertificates(options, self->trusted);
+    natsOptions_IPResolutionOrder(options, IPV4_FIRST);
     natsOptions_SetTimeout(options, PATIENCE);
-    natsOptions_SetMaxReconnect(options, -1);
-    natsOptions_SetReconnectWait(options, RECONNECT);
-    natsOptions_SetReconnectJitter(options, RECONNECT, RECONNECT);
-    natsOptions_SetReconnectBufSize(options, KEPT_BYTES);
+    natsOptions_SetAllowReconnect(options, false); /* while it connects anew by itself all calls with it wait */
     natsOptions_SetPingInterval(options, PING);
     natsOptions_SetMaxPingsOut(options, 2);
     natsOptions_SetErrorHandler(options, on_error, NULL);
@@ -179,11 +181,20 @@ static void take(broker *self) {
         subscribe(self, at);
 }
 
+/* A connection that has ended is followed by another one, not at once, nor at the same time at all machines. */
+static void look_at_end(broker *self) {
+    if (self->is_wanted || self->connection == NULL || !natsConnection_IsClosed(self->connection))
+        return;
+    self->is_wanted = true;
+    self->again_at = self->now + RECONNECT + randombytes_uniform(RECONNECT);
+}
+
 void broker_turn(broker *self, uint32_t now) {
     self->now = now;
     if (!self->has_turned)
         self->again_at = now;
     self->has_turned = true;
+    look_at_end(self);
     if (self->making != NULL && aside_is_over(self->making))
         take(self);
     else if (self->making == NULL && self->is_wanted && (int32_t)(now - self->again_at) >= 0)

@@ -14,6 +14,7 @@ enum {
     GUESTS = 16,
     EARLY = 24,
     EARLY_BYTES = FAZ_LINE_SIGNAL + SIGNAL_HEAD + SEAL,
+    FAMILIES = 2,
     ADDRESS_TEXT = 64,
     WORD_TEXT = 256
 };
@@ -117,10 +118,15 @@ typedef struct early {
     uint8_t bytes[EARLY_BYTES];
 } early;
 
+/* What a server's name stands for: an address, and one of the other family (IPv4, IPv6), if it has both. */
+typedef struct addresses {
+    char text[FAMILIES][ADDRESS_TEXT];
+} addresses;
+
 /* Names of servers, which are looked up beside the game. */
 typedef struct servers {
     char stun[WORD_TEXT], relay[FAZ_LINE_RELAYS][WORD_TEXT];
-    char stun_address[ADDRESS_TEXT], relay_address[FAZ_LINE_RELAYS][ADDRESS_TEXT];
+    addresses stun_at, relay_at[FAZ_LINE_RELAYS];
 } servers;
 
 /* What the door is asked, and whether it has answered. */
@@ -135,6 +141,8 @@ struct faz_lobby {
     /* Settings. */
     faz_line_settings line; /* of each line, but for whose it is */
     servers servers;
+    faz_line_relay named[FAZ_LINE_RELAYS]; /* relays, whose addresses are in `servers` */
+    uint32_t named_count;
     char user[FAZ_LINE_RELAYS][WORD_TEXT], password[FAZ_LINE_RELAYS][WORD_TEXT];
     char name[FAZ_LOBBY_NAME_ROOM];
     uint64_t digest;

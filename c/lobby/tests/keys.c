@@ -1,7 +1,8 @@
-/* What follows from a host's key, and what two machines seal: keys HOST CODE ROOM KEY, as code.py prints them.
+/* What follows from a host's key, what two machines seal, and what a command line says of servers: keys HOST CODE ROOM KEY, as code.py prints them.
  * keys code: a code that is good, and nobody's. */
 #include "../keys.h"
 #include "../messages.h"
+#include "../words.h"
 
 #include <sodium.h>
 #include <stdio.h>
@@ -170,6 +171,35 @@ static void check_name(const char *given, const char *due) {
     check(strcmp(name, due) == 0, name);
 }
 
+/* Where a server is, as a command line says it; null: it says it of none. */
+static void check_server(const char *said, const char *address, uint16_t port) {
+    char relay[LOBBY_WORDS_ROOM];
+    snprintf(relay, sizeof relay, "17:friends:x@%s", said);
+    lobby_words words = {.broker = "nats://[2001:db8::10]:4222", .stun = said}, with_relay = {.broker = words.broker, .relay = relay};
+    faz_lobby_settings stun = {0}, settings = {0};
+    bool is_read = lobby_words_read(&words, &stun) == NULL;
+    check(is_read == (lobby_words_read(&with_relay, &settings) == NULL) && is_read == (address != NULL), said);
+    if (!is_read || address == NULL)
+        return;
+    check(strcmp(stun.stun, address) == 0 && stun.stun_port == port, said);
+    check(settings.relay_count == 1 && strcmp(settings.relays[0].address, address) == 0 && settings.relays[0].port == port
+              && strcmp(settings.relays[0].user, "17:friends") == 0 && strcmp(settings.relays[0].password, "x") == 0, relay);
+}
+
+static void check_servers(void) {
+    check_server("203.0.113.10", "203.0.113.10", 3478);
+    check_server("203.0.113.10:5349", "203.0.113.10", 5349);
+    check_server("relay.example.org:1", "relay.example.org", 1);
+    check_server("[2001:db8::10]:65535", "2001:db8::10", 65535);
+    check_server("[2001:db8::10]", "2001:db8::10", 3478);
+    check_server("2001:db8::10", "2001:db8::10", 3478);
+    check_server("::1", "::1", 3478);
+    const char *const bad[] = {"", ":3478", "203.0.113.10:", "203.0.113.10:0", "203.0.113.10:65536", "203.0.113.10:34x", "[]:3478",
+                               "[2001:db8::10", "[2001:db8::10]3478", "[2001:db8::10]:", "[2001:db8::10]:-1"};
+    for (size_t at = 0; at < sizeof bad / sizeof *bad; at++)
+        check_server(bad[at], NULL, 0);
+}
+
 static int say_code(void) {
     uint8_t code[CODE_BYTES];
     char text[CODE_TEXT];
@@ -197,6 +227,7 @@ int main(int count, char **words) {
     check_bad_keys(&in);
     check_vouching();
     check_tables(&in);
+    check_servers();
     check_name("Zo\xc3\xab", "Zo\xc3\xab");
     check_name("a\x1b[2Jb\n", "a?[2Jb?");
     check_name("\xff\xc3", "??");

@@ -2,7 +2,7 @@
 
 CDEF = """
 typedef struct faz_line faz_line;
-enum { FAZ_LINE_KEY = 32, FAZ_LINE_SIGNAL = 1024, FAZ_LINE_RELAYS = 4 };
+enum { FAZ_LINE_KEY = 32, FAZ_LINE_SIGNAL = 1024, FAZ_LINE_RELAYS = 8 };
 typedef struct faz_line_keys { uint8_t open[FAZ_LINE_KEY]; uint8_t secret[FAZ_LINE_KEY]; } faz_line_keys;
 typedef struct faz_line_relay { const char *address; uint16_t port; const char *user, *password; bool by_tcp; }
     faz_line_relay;

@@ -4,7 +4,7 @@ use std::ffi::{c_char, c_void};
 
 pub const KEY: usize = 32;
 pub const SIGNAL: usize = 1024;
-pub const RELAYS: usize = 4;
+pub const RELAYS: usize = 8;
 
 // faz_line_way
 pub const NO_WAY: u32 = 0;
@@ -44,7 +44,7 @@ pub struct Settings {
     pub their: *const u8,
     pub stun: *const c_char,
     pub stun_port: u16,
-    pub relays: [Relay; 4],
+    pub relays: [Relay; 8],
     pub relay_count: u32,
     pub relay_only: bool,
     pub any_sender: bool,
