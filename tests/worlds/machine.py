@@ -186,8 +186,8 @@ class Machine:
         for parcel in datagram.body:
             receiver, _, inner = parcel
             if receiver != self.name:
-                if not self.swallows and not self.byes:
-                    epoch.lines.hand_on(parcel, self.heard_straight(epoch, now), epoch.mesh.gone)
+                if not self.swallows and not self.byes and not epoch.mesh.gone & (1 << receiver | 1 << inner.sender):
+                    epoch.lines.hand_on(parcel, self.shut(epoch))
             elif inner.kind in (HELLO, PLAY, BYE):
                 found = self.unseal(inner)
                 if found:
@@ -398,34 +398,39 @@ class Machine:
                 contents[machine] = PLAY, contact.clocks(now)
         return contents
 
+    def shut(self, epoch):
+        """The mask of the machines with which this one carries nothing: they are gone, or it doesn't play with them yet."""
+        return epoch.mesh.gone | mask(m for m in epoch.mesh.staying() if not self.contacts[m].playing)
+
     def send_in(self, epoch, contents, now, out):
         """What goes out in one epoch."""
-        lines, gone = epoch.lines, epoch.mesh.gone
-        heard = self.heard_straight(epoch, now)
-        lines.look(heard, self.turns)
+        lines, shut, staying = epoch.lines, self.shut(epoch), epoch.mesh.staying()
+        lines.look(self.heard_straight(epoch, now), self.turns)
         if self.forges:
             lines.forge(self.turns)
-        for machine in sorted(epoch.mesh.staying(), key=lambda it: not lines.is_broken(it, heard)):
+        for machine in staying:
             datagram = self.datagram(epoch, machine, *contents[machine]) if machine in contents else None
             if datagram:
-                self.send_one(lines, datagram, heard, gone, out)
-            if self.contacts[machine].playing and lines.tells_map(self.turns):
+                self.send_one(lines, datagram, shut, out)
+        for machine in staying if lines.tells_map(self.turns) else ():
+            if self.contacts[machine].playing:
                 entries = lines.entries()
                 out.append((machine, self.seal(epoch, machine, MAP, entries, sizes.map_size(entries))))
         for hop, size, parcels in lines.take_waiting():
             if self.contacts[hop].playing:
-                out.append((hop, self.seal(epoch, hop, CARRIED, parcels, size)))
+                is_alone = len(parcels) == 1 and parcels[0][1] == 0
+                out.append((hop, parcels[0][2] if is_alone else self.seal(epoch, hop, CARRIED, parcels, size)))
 
-    def send_one(self, lines, datagram, heard, gone, out):
-        """A datagram goes straight, or to a carrier, or both ways. What goes straight goes with the parcels that wait for the same
-        machine."""
-        machine = datagram.receiver
-        carrier = lines.carrier(machine, self.name, gone) if lines.is_broken(machine, heard) else None
+    def send_one(self, lines, datagram, shut, out):
+        """A datagram goes straight, or to a carrier, or both ways. What goes straight waits to go with what is carried to the same
+        machine, if there may be something; a bye doesn't."""
+        machine, is_bye = datagram.receiver, datagram.kind == BYE
+        carrier = lines.carrier(machine, self.name, shut) if lines.is_broken(machine) else None
         if carrier is not None:
             lines.wait(carrier, (machine, STEPS, datagram))
-        if lines.goes_straight(machine, self.turns, carrier):
+        if is_bye or lines.goes_straight(machine, self.turns, carrier):
             parcel = machine, 0, datagram
-            if not (holds("together") and self.contacts[machine].playing and machine in lines.waiting and lines.wait(machine, parcel)):
+            if is_bye or not (lines.has_company(machine, shut) and lines.wait(machine, parcel)):
                 out.append((machine, datagram))
 
     def datagram(self, epoch, machine, kind, content):
