@@ -174,6 +174,7 @@ static void begin_epoch(match *self, uint32_t frames) {
     lasting *it = &self->lasting;
     match_must(self, fazgrond_peer_epoch(&self->peer, &it->epoch));
     read_epoch(self);
+    helpers_leave(&self->helpers);
     it->is_at_seam = true;
     match_obey(self);
     self->frame = it->base + frames;
@@ -273,6 +274,7 @@ void lasting_begin(match *self) {
 }
 
 void lasting_return(match *self) {
+    helpers_leave(&self->helpers);
     faz_hosting_close(&self->lasting.hosting);
     fazgrond_peer_close(&self->peer);
     fazgrond_close(&self->session);
