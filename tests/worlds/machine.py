@@ -413,11 +413,11 @@ class Machine:
             if datagram:
                 self.send_one(lines, datagram, shut, out)
         for machine in staying if lines.tells_map(self.turns) else ():
-            if self.contacts[machine].playing:
+            if not shut >> machine & 1:
                 entries = lines.entries()
                 out.append((machine, self.seal(epoch, machine, MAP, entries, sizes.map_size(entries))))
         for hop, size, parcels in lines.take_waiting():
-            if self.contacts[hop].playing:
+            if not shut >> hop & 1:
                 is_alone = len(parcels) == 1 and parcels[0][1] == 0
                 out.append((hop, parcels[0][2] if is_alone else self.seal(epoch, hop, CARRIED, parcels, size)))
 
