@@ -545,7 +545,10 @@ static uint32_t turns_to_come(uint32_t at, uint32_t most) {
 
 /* ---- Cases. */
 
-/* A program stops, and is begun again so many turns later. */
+/* How often the bytes of the states were sent that a place was given. */
+static double times_sent(const place *back) { return (double)back->bytes_sent / (double)(back->states_sent * with.size); }
+
+/* A program stops, and is begun again so many turns later. On a line that loses nothing hardly a byte of a state comes twice. */
 static uint32_t come_back(terms of, uint32_t before, uint32_t after) {
     uint32_t at = of.machines - 1;
     begin(of);
@@ -559,6 +562,7 @@ static uint32_t come_back(terms of, uint32_t before, uint32_t after) {
     all_play(of.machines);
     words_count(at, 0);
     IS(all[0].desyncs + all[at].desyncs, 0);
+    IS(all[at].states_sent > 0 && (of.loss > 0 || times_sent(&all[at]) < 1.2), true);
     return turns;
 }
 
@@ -858,7 +862,7 @@ static void say_time(uint32_t machines, uint32_t after) {
         printf("%u machines, %.1f s after the crash, %.1f s into the match: back in %.2f s; the others stood for %u turns; "
                "%zu states, whose bytes were sent %.2f times\n",
                (unsigned)machines, after * 0.016, before * 0.016, turns * 0.016, (unsigned)all[0].frames_stood, back->states_sent,
-               (double)back->bytes_sent / (double)(back->states_sent * with.size));
+               times_sent(back));
     }
 }
 
