@@ -5,14 +5,25 @@ their frames.
     python3 two_peers.py watch > watch.stdout
     python3 two_peers.py come_back < come_back.stdout
 
-Where somebody leaves and comes back is a matter of time: it is read, and by that follows what the game comes to.
+Of come_back.c the frame is read at which machine 1 is back: how many turns the others take to bring it in is theirs to say. It has to be
+within these bounds, and all else follows.
+
+Each datagram takes two turns: the first hello is heard in turn 2, its answer in turn 4, the first play in turn 6, and so the match begins
+in turn 7. Machine 1 plays a frame in each turn from then on, and gives the word of two frames later. What it sent in turn 199, its last
+one, is heard. So of player 2 there are the words of frames 0 to 194. Machine 0 plays on by eight frames, and stands at frame 203, until
+machine 1 is begun again and heard: its old player leaves, and from the next turn on a frame is played in each. The rows since take two
+turns to who comes, and that it has them two turns back. Then three frames more are played, and the mark is on the word of two frames later:
+frame 208, so that player 2 is back at frame 209 at the earliest. A second later is late.
 """
 import re
 import sys
 
 FRAMES, LONGER = 600, 900
-DELAY = 2   # in come_back.c; so many first words of who begins are 0
 GONE = 5    # in the place of the number times the word
+
+# Of come_back.c: the turns in which the match begins, and in which machine 1's program ends; and its settings.
+BEGINS, ENDED, DELAY, THRESHOLD = 7, 200, 2, 8
+AT_LEAST, AT_MOST = 6, 60
 
 
 def word(me, frame):
@@ -20,7 +31,9 @@ def word(me, frame):
 
 
 def come_back(line):
-    away, back = map(int, re.findall(r"frame (\d+)", line))
+    away = ENDED - BEGINS + DELAY   # so many first words are 0, and then one is given in each turn
+    stands = away + THRESHOLD
+    back = min(max(int(re.findall(r"frame (\d+)", line)[-1]), stands + AT_LEAST), stands + AT_MOST)
     state = 0
     for frame in range(LONGER):
         first = word(0, frame) if frame >= DELAY else 0
