@@ -16,7 +16,7 @@
     } while (0)
 
 enum { PLAYERS = 4, MACHINES = 3, VIEWER = MACHINES, ALL, FRAMES = 400, MOST = 5000, WAITING = 512, LOST = 20, TWICE = 10,
-       LATE = 12, JOBS = 4, HELD = 12 };
+       LATE = 12, JOBS = 4, HELD = 12, ROWS = 8 };
 
 /* Where each player sits. */
 static const int home[PLAYERS] = { 0, 1, 0, 2 };
@@ -32,9 +32,11 @@ typedef struct datagram {
 static datagram list[WAITING];
 static unsigned long sent, lost, twice, overtaken;
 
+/* The game's state has the numbers at its last frames too: a helper that plays some at once has them looked at, each of them. */
 static struct game {
     int frame;
     unsigned number;
+    unsigned last[ROWS];
     unsigned at[MOST]; /* the number at each frame, as it was played last */
     int again, buffers, is_running, epochs, gone;
     unsigned long newest; /* of those that came, the one that was sent last */
@@ -49,6 +51,7 @@ static struct game {
 static struct {
     int frame;
     unsigned number;
+    unsigned last[ROWS];
 } helped;
 
 /* The one of whom a call is being made: GGPO's callbacks aren't told. */
@@ -159,7 +162,7 @@ static unsigned step_of(unsigned number, const unsigned short *inputs) {
 
 static void note(void) {
     MUST(game->frame < MOST);
-    game->at[game->frame] = game->number;
+    game->at[game->frame] = game->last[game->frame % ROWS] = game->number;
 }
 
 static void step(const unsigned short *inputs) {
@@ -170,7 +173,7 @@ static void step(const unsigned short *inputs) {
 
 static bool on_save(unsigned char **buffer, int *len, int *checksum, int frame) {
     MUST(frame == game->frame);
-    *len = 2 * sizeof(int);
+    *len = sizeof helped;
     *buffer = malloc((size_t)*len);
     MUST(*buffer != NULL);
     memcpy(*buffer, game, (size_t)*len);
@@ -180,9 +183,10 @@ static bool on_save(unsigned char **buffer, int *len, int *checksum, int frame) 
 }
 
 static bool on_load(unsigned char *buffer, int len) {
-    MUST(len == 2 * sizeof(int));
+    MUST(len == sizeof helped);
     memcpy(game, buffer, (size_t)len);
-    note();
+    for (int frame = game->frame; frame >= 0 && frame > game->frame - ROWS; frame--)
+        game->at[frame] = game->last[frame % ROWS];
     return true;
 }
 
@@ -221,6 +225,7 @@ static bool helper_advance(void *helper, const void *inputs, int size, int gone)
     memcpy(all, inputs, sizeof all);
     helped.number = step_of(helped.number, all);
     helped.frame++;
+    helped.last[helped.frame % ROWS] = helped.number;
     return true;
 }
 
