@@ -196,7 +196,7 @@ static void ask_for_delays(match *self) {
         (void)fazgrond_peer_mark(&self->peer, &self->session, (uint8_t)self->locals[0], &mark);
 }
 
-/* The rows of frames that a helper played: this core went on from its states, and stepped them by other rows at most. */
+/* All settled rows are put onto the trail. Of a frame that a helper played it has the row that was predicted before. */
 static void settle_trail(match *self) {
     lasting *it = &self->lasting;
     fazgrond_row row;
