@@ -1067,9 +1067,16 @@ static void stops_as_it_begins(uint32_t alone, uint32_t delay) {
     IS(epochs_played(), 3);
 }
 
+/* How many words of a player a machine has. */
+static uint32_t words_at(uint32_t me, uint32_t player) {
+    uint32_t words;
+    OK(fazgrond_confirmed(&all[me].session, (uint8_t)(player + 1), &words));
+    return words;
+}
+
 /* One of three hears nothing of another, and puts a mark so many turns later. The other stops before it hears of that: the third one has
- * its words past the mark, and its own past it have come as well. All are as they were predicted. Whoever takes them at once has no state
- * at the end any more. */
+ * its words past the mark, and its own past it have come as well, before there was the mark. All are as they were predicted. Whoever takes
+ * them at once has no state at the end any more. */
 static void keeps_the_end(uint32_t delay, uint32_t late) {
     terms of = terms_for(3);
     of.is_steady = true;
@@ -1081,6 +1088,8 @@ static void keeps_the_end(uint32_t delay, uint32_t late) {
     OK(put(0, 0, mark_of_nothing()));
     run(2);
     stop(2);
+    uint32_t end = marks[0].frame + 1;
+    IS(words_at(0, 0) > end && words_at(0, 1) > end && words_at(0, 2) < end && words_at(1, 2) > end, true);
     run_to_the_end(1000);
     IS(epochs_played(), 2);
 }
@@ -1786,8 +1795,8 @@ static void try_stops(uint32_t every) {
     for (uint32_t alone = 0; alone <= 2 * AROUND; alone += every)
         for (uint32_t delay = 0; delay <= 4; delay += every < 4 ? 2 : 4)
             tries("a machine stops as an epoch begins", stops_as_it_begins, alone, delay);
-    for (uint32_t delay = 1; delay <= 4; delay += every < 4 ? 1 : 3)
-        for (uint32_t late = 2; late <= 6; late += every < 4 ? 1 : 2)
+    for (uint32_t delay = 4; delay <= MOST_DELAY; delay += every < 4 ? 1 : 4) /* a shorter one has words past the end come after the mark */
+        for (uint32_t late = delay; late <= 8; late += every < 4 ? 1 : 2)
             tries("who lacks words keeps the end", keeps_the_end, delay, late);
 }
 

@@ -310,8 +310,9 @@ GGPO_API GGPOErrorCode __cdecl fazggpo_get_settled_from(GGPOSession *session, in
  * each machine: no pointers. Everywhere FAZGGPO_EVENTCODE_EPOCH tells who has come. The player's inputs count 2 frames later from
  * then on, whatever ggpo_set_frame_delay said.
  *
- * Such a match has no last frame, and neither spectators nor guesses (GGPO_ERRORCODE_UNSUPPORTED). A machine that is heard and isn't
- * in the match has to be that of a player who stopped: its other program is put out at once. */
+ * Such a match has no last frame, and no spectators (GGPO_ERRORCODE_UNSUPPORTED): GGPO's are given frames and no states, so one that
+ * comes late would have to be given all of them from the first one on. A machine that is heard and isn't in the match has to be that
+ * of a player who stopped: its other program is put out at once. */
 GGPO_API GGPOErrorCode __cdecl fazggpo_rejoin(GGPOSession *session);
 
 /* ---- Guesses: where a processor is idle, it can play frames before the inputs come that would need them. A guess is that a remote

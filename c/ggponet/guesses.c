@@ -18,8 +18,11 @@ struct FazggpoJob {
     uint32_t number; /* the library's */
     uint32_t slots[MOST_ROWS];
 
-    /* What the helper is handed. The buffer is that of a saved state, which stays as long as the job is out. */
+    /* What the helper is handed. The buffer is that of a saved state, which stays as long as the job is out: `kept`, if the match has
+     * gone on in another epoch, and forgotten the job and the state. */
     unsigned char *buffer;
+    bool is_past;
+    saved kept;
     int length;
     int frame;
     int rows;
@@ -92,9 +95,13 @@ bool fazggpo_run_job(FazggpoJob *job, const FazggpoHelper *helper) {
 
 /* The job is over, and its buffers are given back. */
 static void drop(GGPOSession *session, FazggpoJob *job) {
+    saved kept = job->kept;
+    memset(&job->kept, 0, sizeof job->kept);
+    job->is_past = false;
     for (int at = 0; at < MOST_ROWS; at++)
         ggponet_give_back(session, &job->made[at]);
     atomic_store(&job->stage, IDLE);
+    ggponet_give_back(session, &kept); /* or another job that began with it keeps it */
 }
 
 /* The states that a helper made become the session's, as far as they are kept. */
@@ -114,6 +121,10 @@ static void graft(GGPOSession *session, FazggpoJob *job) {
 
 static void take_job(GGPOSession *session, FazggpoJob *job) {
     session->guesses->count.run++;
+    if (job->is_past) {
+        drop(session, job);
+        return;
+    }
     if (job->is_whole)
         graft(session, job);
     else {
@@ -127,6 +138,32 @@ void ggponet_take_jobs(GGPOSession *session) {
     for (int at = 0; session->guesses != NULL && at < MOST_JOBS; at++)
         if (atomic_load(&session->guesses->job[at].stage) == DONE)
             take_job(session, &session->guesses->job[at]);
+}
+
+/* The session of the epoch that is over has forgotten all jobs. What a helper has fetched it runs to its end, for nothing. */
+void ggponet_leave_jobs(GGPOSession *session) {
+    for (int at = 0; session->guesses != NULL && at < MOST_JOBS; at++) {
+        FazggpoJob *job = &session->guesses->job[at];
+        int waiting = WAITING;
+        bool was_waiting = atomic_compare_exchange_strong(&job->stage, &waiting, IDLE);
+        if (was_waiting || waiting == DONE)
+            drop(session, job);
+        else
+            job->is_past = waiting == FETCHED;
+    }
+    for (int at = 0; session->guesses != NULL && at < FAZGROND_PLAYERS; at++)
+        session->guesses->habit[at].known = 0;
+}
+
+bool ggponet_keep_state(GGPOSession *session, const saved *state) {
+    for (int at = 0; session->guesses != NULL && at < MOST_JOBS; at++) {
+        FazggpoJob *job = &session->guesses->job[at];
+        if (job->is_past && job->buffer == state->buffer) {
+            job->kept = *state;
+            return true;
+        }
+    }
+    return false;
 }
 
 /* What no helper has fetched so far comes too late: newer jobs are worth more. */
@@ -221,15 +258,14 @@ static bool take_requests(GGPOSession *session, FazggpoJob *job, bool is_made) {
 /* Makes a job of a guess, if there is anything to run for it: so many words as the last one, and then the one before. */
 static bool make_job(GGPOSession *session, int player, uint32_t held) {
     const habit *seen = &session->guesses->habit[player - 1];
-    uint32_t words[GGPO_MAX_PREDICTION_FRAMES + 1], turn = seen->known + held;
+    uint32_t words[GGPO_MAX_PREDICTION_FRAMES + 1], turn = seen->known + held, frame = (uint32_t)(session->frame - session->base);
     FazggpoJob *job = idle_job(session->guesses);
-    if (job == NULL || !seen->has_before || turn > (uint32_t)session->frame || is_out(session->guesses, player, turn, seen->before))
+    if (job == NULL || !seen->has_before || turn > frame || is_out(session->guesses, player, turn, seen->before))
         return false;
     for (uint32_t at = 0; at < held; at++)
         words[at] = seen->last;
     words[held] = seen->before;
-    int32_t answer = fazgrond_guess(&session->rollback, (uint8_t)player, words, held + 1, (uint32_t)session->frame + 1,
-                                    &job->number);
+    int32_t answer = fazgrond_guess(&session->rollback, (uint8_t)player, words, held + 1, frame + 1, &job->number);
     bool is_made = answer == FAZGROND_OK;
     if (!take_requests(session, job, is_made)) {
         if (is_made)
@@ -282,8 +318,6 @@ GGPOErrorCode fazggpo_guess(GGPOSession *session, int jobs) {
         return GGPO_ERRORCODE_INVALID_SESSION;
     if (session->is_spectating || session->sync_frames != 0)
         return ggponet_refuse(session, GGPO_ERRORCODE_UNSUPPORTED, "guesses are for matches");
-    if (session->can_rejoin)
-        return ggponet_refuse(session, GGPO_ERRORCODE_UNSUPPORTED, "guesses aren't for a match into which players come back");
     if (jobs < 0 || jobs > MOST_JOBS)
         return ggponet_refuse(session, GGPO_ERRORCODE_INVALID_REQUEST, "%d jobs; 0 to %d were expected", jobs, MOST_JOBS);
     if (session->guesses == NULL)

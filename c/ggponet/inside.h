@@ -349,6 +349,10 @@ void ggponet_run_sync_test(GGPOSession *session);
 void ggponet_take_jobs(GGPOSession *session);
 /* Jobs for helpers are made, after an advance. */
 void ggponet_make_jobs(GGPOSession *session);
+/* The jobs of an epoch that is over are none any more. */
+void ggponet_leave_jobs(GGPOSession *session);
+/* Whether a job of such an epoch, which a helper still runs, takes a state over that it began with. */
+bool ggponet_keep_state(GGPOSession *session, const saved *state);
 /* A state that a rollback goes on from: it is counted if a helper made it. */
 void ggponet_note_use(GGPOSession *session, const saved *state);
 /* Whether a helper is at work. */

@@ -11,8 +11,8 @@ GGPOErrorCode fazggpo_rejoin(GGPOSession *session) {
         return ggponet_only_watches(session, "fazggpo_rejoin");
     if (session->is_open || session->sync_frames != 0)
         return ggponet_is_too_late(session, "that players come back");
-    if (session->guesses != NULL || session->spectators > 0)
-        return ggponet_refuse(session, GGPO_ERRORCODE_UNSUPPORTED, "players come back into no match with guesses or spectators");
+    if (session->spectators > 0)
+        return ggponet_refuse(session, GGPO_ERRORCODE_UNSUPPORTED, "players come back into no match with spectators");
     if (ggponet_has_pairs(session))
         return ggponet_refuse(session, GGPO_ERRORCODE_UNSUPPORTED, "a match into which players come back has one number for all pairs");
     session->can_rejoin = true;
@@ -145,6 +145,7 @@ GGPOErrorCode ggponet_go_on(GGPOSession *session) {
     session->remembered = session->base; /* who is alone has settled frames past the end, which are played again */
     session->noted = UINT32_MAX;
     place_machines(session);
+    ggponet_leave_jobs(session);
     code = ggponet_carry_out_all(session, &is_stepped);
     if (code == GGPO_OK)
         tell_epoch(session);

@@ -2,7 +2,7 @@
 #include "inside.h"
 
 void ggponet_give_back(GGPOSession *session, saved *one) {
-    if (one->taken)
+    if (one->taken && !ggponet_keep_state(session, one))
         session->call.free_buffer(one->buffer);
     memset(one, 0, sizeof *one);
 }

@@ -164,7 +164,7 @@ static const char *no_rejoin(void) {
     return !CAN_LAST ? "the library of this program is too old for --rejoin"
         : self.host == 0 && self.join == NULL && self.watch == NULL ? "--rejoin is said with --host, --join or --watch"
         : self.join != NULL && self.port == 0 && !self.by_code ? "--rejoin needs --port N: the same when this machine comes back"
-        : self.helpers > 0 || self.hold > 0 ? "with --rejoin no helper plays ahead, and no word is held back"
+        : self.hold > 0 ? "with --rejoin no word is held back"
         : self.wish.picture != NULL ? "a match with --rejoin has no picture" : NULL;
 }
 
@@ -190,8 +190,10 @@ static bool take_rejoin(void) {
     const char *why = self.lasts ? no_rejoin() : NULL;
     if (why != NULL)
         return fail(why), false;
-    if (self.lasts)
-        self.helpers = self.hold = 0;
+    if (self.lasts) {
+        self.helpers = self.helpers > 0 ? self.helpers : 0;
+        self.hold = 0;
+    }
     return true;
 }
 

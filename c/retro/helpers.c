@@ -37,6 +37,7 @@ static void *help(void *closure) {
         pthread_mutex_lock(&self->all->lock);
         one->stage = JOB_DONE;
         self->all->has_failed |= !goes_on;
+        pthread_cond_signal(&self->all->done);
         pthread_mutex_unlock(&self->all->lock);
     }
     free(self);
@@ -48,6 +49,7 @@ bool helpers_begin(helpers *self, uint32_t count, bool keeps_one, const recipe *
     self->keeps_one = keeps_one;
     pthread_mutex_init(&self->lock, NULL);
     pthread_cond_init(&self->wake, NULL);
+    pthread_cond_init(&self->done, NULL);
     for (int at = 0; at < FAZGROND_PLAYERS; at++)
         self->habits[at] = habits_new();
     for (; self->count < count && self->count < HELPERS; self->count++) {
@@ -81,7 +83,21 @@ void helpers_end(helpers *self) {
     }
     pthread_mutex_destroy(&self->lock);
     pthread_cond_destroy(&self->wake);
+    pthread_cond_destroy(&self->done);
     self->count = 0;
+}
+
+void helpers_leave(helpers *self) {
+    pthread_mutex_lock(&self->lock);
+    self->queued = 0;
+    for (int at = 0; at < JOBS; at++) {
+        while (self->jobs[at].stage == JOB_RUNS)
+            pthread_cond_wait(&self->done, &self->lock);
+        self->jobs[at].stage = JOB_NONE;
+    }
+    self->certain = NULL;
+    memset(self->noted, 0, sizeof self->noted); /* its words are counted from its next frame 0 on */
+    pthread_mutex_unlock(&self->lock);
 }
 
 /* Takes a job that waits out of the queue. Whether it still waited. */

@@ -23,7 +23,7 @@ typedef struct helpers {
     uint32_t count, turn;
     bool keeps_one; /* the first one is kept free for words that have come */
     pthread_mutex_t lock;
-    pthread_cond_t wake;
+    pthread_cond_t wake, done; /* a job is there, or is done */
     job jobs[JOBS];
     job *queue[JOBS]; /* those that wait, the first one first */
     uint32_t queued;
@@ -38,6 +38,9 @@ typedef struct helpers {
 bool helpers_begin(helpers *self, uint32_t count, bool keeps_one, const recipe *from, states *states, char *why, size_t room);
 /* Waits until no job runs. Before the session is closed. */
 void helpers_end(helpers *self);
+
+/* The session has forgotten all jobs, or is to be closed: none is any more. Waits until none runs. */
+void helpers_leave(helpers *self);
 
 /* Hands the session what is done. False if a core refused a state. */
 bool helpers_graft(helpers *self, fazgrond_session *session);

@@ -79,7 +79,7 @@ static void note_part(match *self, const fazgrond_epoch *epoch) {
 static void read_epoch(match *self) {
     agreement *all = &self->meeting->all;
     note_part(self, &self->lasting.epoch);
-    self->lasting.base = all->base = (uint32_t)self->lasting.epoch.base;
+    self->lasting.base = self->lasting.seen = all->base = (uint32_t)self->lasting.epoch.base;
     for (uint32_t player = 0; player < all->players; player++) {
         uint32_t owner = self->lasting.epoch.owners[player];
         all->delays[player] = self->lasting.epoch.delays[player];
@@ -174,6 +174,7 @@ static void begin_epoch(match *self, uint32_t frames) {
     lasting *it = &self->lasting;
     match_must(self, fazgrond_peer_epoch(&self->peer, &it->epoch));
     read_epoch(self);
+    helpers_leave(&self->helpers);
     it->is_at_seam = true;
     match_obey(self);
     self->frame = it->base + frames;
@@ -195,8 +196,17 @@ static void ask_for_delays(match *self) {
         (void)fazgrond_peer_mark(&self->peer, &self->session, (uint8_t)self->locals[0], &mark);
 }
 
+/* All settled rows are put onto the trail. Of a frame that a helper played it has the row that was predicted before. */
+static void settle_trail(match *self) {
+    lasting *it = &self->lasting;
+    fazgrond_row row;
+    for (; fazgrond_settled_row(&self->session, it->seen - it->base, &row) == FAZGROND_OK; it->seen++)
+        trail_settle(&it->trail, it->seen, &row);
+}
+
 void lasting_turn(match *self, uint32_t now) {
     uint32_t frames = 0;
+    settle_trail(self);
     faz_hosting_answer(&self->lasting.hosting);
     int32_t code = fazgrond_peer_go_on(&self->peer, &self->session, &frames);
     if (code == FAZGROND_OK)
@@ -273,6 +283,7 @@ void lasting_begin(match *self) {
 }
 
 void lasting_return(match *self) {
+    helpers_leave(&self->helpers);
     faz_hosting_close(&self->lasting.hosting);
     fazgrond_peer_close(&self->peer);
     fazgrond_close(&self->session);

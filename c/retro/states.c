@@ -49,6 +49,11 @@ const fazgrond_row *trail_row(const trail *self, uint32_t frame) {
     return frame >= self->first && frame - self->first < self->count ? &self->rows[frame - self->first] : NULL;
 }
 
+void trail_settle(trail *self, uint32_t frame, const fazgrond_row *row) {
+    if (trail_row(self, frame) != NULL)
+        self->rows[frame - self->first] = *row;
+}
+
 void trail_free(trail *self) {
     free(self->rows);
     memset(self, 0, sizeof *self);

@@ -5,15 +5,17 @@ within the last `relay_after`.
 
 The map has an entry for each machine of the epoch: a mask of the machines that it hears straight, and a number. At first all masks
 are empty: nobody is known to hear anybody. A machine makes its own mask anew in each turn, and its number rises by one when that
-changes. It tells the whole map to each other machine that isn't gone, straight, in a datagram of its own: in each of the 16 turns
+changes. It tells the whole map to each other machine that isn't shut, straight, in a datagram of its own: in each of the 16 turns
 after an entry changed, else in one turn of 16. Of a map it takes each entry with a number that is greater than the one it has. Of
-itself it takes none: if that has another mask, and a number that isn't less than its own, its own becomes one more.
+itself it takes none: if that has another mask, and a number that isn't less than its own, its own becomes one more. Two machines have
+no map.
 
-By the map a line *works* from a to b if b hears a straight. A *way* to a machine goes over such lines by machines that aren't gone.
+A machine is *shut* if it is gone, or doesn't play with this one yet. By the map a line *works* from a to b if b hears a straight. A *way*
+to a machine goes over such lines by machines that aren't shut.
 
 A datagram (hello, play or bye) for machine m goes straight
 
-- in each turn, if the line to m works by the map, or nobody can carry for m;
+- in each turn, if the line to m works by the map, or nobody can carry for m, or it is a bye;
 - else in one turn of 17: by an even number of turns hellos and plays, which go in turn, would never change places.
 
 It is also handed to a carrier if the line to m doesn't work by the map, or this machine doesn't hear m straight. A carrier for m is a
@@ -21,14 +23,16 @@ machine to which the line works and from which a way leads to m, neither by this
 carriers take turns, the nearest first, and after every 16 datagrams one is passed over: so none of them gets all of what comes in
 an even rhythm.
 
-Who gets a datagram that is for another hands it on in the same turn, with one step less left: straight to that one if each of the
-two hears the other straight, else to a carrier; the straight way counts as one if it works by the map. It drops it if no step is
+Who gets a datagram that is for another hands it on in the same turn, with one step less left: straight to that one if by the map each
+of the two hears the other straight, else to a carrier; the straight way counts as one if it works by the map. It drops it if no step is
 left, if its maker or its receiver is gone, or if there is no room. Who gets one for itself hears it as if it had come straight, but
 only who handed it over was heard straight.
 
 What is carried to one next machine in a turn, its own and what it hands on, goes in one datagram of at most 1,200 bytes, or in up to
-four; if there is some, what goes straight to that machine goes with it. Each of these parcels says in four bytes for whom it is, how
-many steps are left, and its length. They stand in the place of the first four of the datagram, which are the same in all.
+four, after the map. What goes straight to that machine, but for byes, waits to go with it if there is some, or may be: if a line of this
+machine doesn't work both ways, of those to machines that aren't shut. If it is alone then, it goes as it is. Each of these parcels
+says in four bytes for whom it is, how many steps are left, and its length. They stand in the place of the first four of the datagram,
+which are the same in all.
 """
 from collections import deque
 
@@ -54,7 +58,7 @@ class Lines:
         self.hears = {m: 0 for m in members}
         self.numbers = {m: first_number for m in members}
         self.changed_at = -TURNS
-        self.known_ways, self.known_gone, self.taken_turns = {}, 0, {}
+        self.known_ways, self.known_shut, self.taken_turns = {}, 0, {}
         self.waiting = {}
 
     def follow(self, old):
@@ -111,45 +115,50 @@ class Lines:
         return turn - self.changed_at < TURNS
 
     def tells_map(self, turn):
-        return self.has_news(turn) and holds("news") or (turn + self.me) % TURNS == 0 and holds("again")
+        return len(self.members) > 2 and (self.has_news(turn) and holds("news") or (turn + self.me) % TURNS == 0 and holds("again"))
 
     # ---- straight, or carried
 
-    def is_broken(self, machine, heard):
+    def is_broken(self, machine):
         """Whether what goes to a machine is carried, since the line doesn't work both ways."""
-        return not self.works(self.me, machine) or not heard >> machine & 1 and holds("one_way")
+        return not self.works(self.me, machine) or not self.works(machine, self.me) and holds("one_way")
+
+    def has_company(self, machine, shut):
+        """Whether something may be carried to a machine with which what goes straight can go."""
+        others = [m for m in self.members if m != self.me and not shut >> m & 1]
+        return machine in others and holds("together") and (machine in self.waiting or any(map(self.is_broken, others)))
 
     def goes_straight(self, machine, turn, carrier):
         """Whether what goes to a machine goes straight, for which there is this carrier or none."""
         return self.works(self.me, machine) or carrier is None and holds("no_carrier") \
             or (turn + self.me) % (TURNS + holds("odd")) == TURNS // 2 and holds("probe")
 
-    def distances(self, receiver, without, gone):
+    def distances(self, receiver, without, shut):
         """How many steps it is from each machine to the receiver."""
         far, queue = {receiver: 0}, deque([receiver])
         while queue:
             b = queue.popleft()
             for a in self.members:
-                if a not in far and a not in without and not gone >> a & 1 and self.works(a, b):
+                if a not in far and a not in without and not shut >> a & 1 and self.works(a, b):
                     far[a] = far[b] + 1
                     queue.append(a)
         return far
 
-    def ways(self, receiver, maker, gone):
+    def ways(self, receiver, maker, shut):
         """The machines that can be handed what one machine made for another, the nearest first."""
-        if gone != self.known_gone:
-            self.known_gone = gone
+        if shut != self.known_shut:
+            self.known_shut = shut
             self.known_ways.clear()
         key = receiver, maker
         if key not in self.known_ways:
-            far = self.distances(receiver, {self.me, maker} - {receiver}, gone)
-            self.known_ways[key] = [m for _, m in sorted((far[m], m) for m in far
-                                    if self.works(self.me, m) and (m != receiver or maker != self.me))]
+            far = self.distances(receiver, {self.me, maker} - {receiver}, shut)
+            self.known_ways[key] = [m for _, m in sorted((far[m], m) for m in far if self.works(self.me, m)
+                                    and (m != receiver or maker != self.me and not shut >> m & 1))]
         return self.known_ways[key]
 
-    def carrier(self, receiver, maker, gone):
+    def carrier(self, receiver, maker, shut):
         """Who is handed the next datagram; None if nobody can carry it."""
-        ways = self.ways(receiver, maker, gone) if holds("carry") else []
+        ways = self.ways(receiver, maker, shut) if holds("carry") else []
         if not ways:
             return None
         count = self.taken_turns[receiver, maker] = self.taken_turns.get((receiver, maker), -1) + 1
@@ -159,14 +168,14 @@ class Lines:
 
     # ---- parcels
 
-    def hand_on(self, parcel, heard, gone):
+    def hand_on(self, parcel, shut):
         """Hands on what is for another machine. Whether there was somebody to take it."""
         receiver, steps, datagram = parcel
-        maker = datagram.sender
-        if steps == 0 or receiver not in self.hears or gone >> receiver & 1 or gone >> maker & 1:
+        if steps == 0 or receiver not in self.hears:
             return False
-        sure = self.works(self.me, receiver) and heard >> receiver & 1 and holds("sure")
-        hop = receiver if sure else self.carrier(receiver, maker, gone)
+        whole = self.works(self.me, receiver) and self.works(receiver, self.me)
+        sure = whole and not shut >> receiver & 1 and holds("sure")
+        hop = receiver if sure else self.carrier(receiver, datagram.sender, shut)
         return hop is not None and self.wait(hop, (receiver, steps - holds("steps"), datagram))
 
     def wait(self, hop, parcel):

@@ -9,7 +9,10 @@ If a machine is silent and this one doesn't hear most, it calls nobody gone. If 
 so. Once that has lasted for `silent_after`, it says bye to all that aren't gone, and ends. In the meantime its program can put out whom it
 doesn't hear, and go on with the others.
 
-Whoever leaves, or ends, says bye in three turns.
+Whoever leaves, or ends, says bye in three turns. It makes no turns of its own then, and so tells no map; but it still hands on.
+
+The clock of a machine goes on in its turns, as it sends, and as a hello, a play or a bye comes, carried or not. A map, and what is
+carried, is heard at the moment that the clock shows then.
 """
 import hashlib
 from typing import NamedTuple
@@ -57,6 +60,7 @@ class Machine:
         self.rows, self.digests, self.chain, self.promised = {}, {}, [], []
         self.joined, self.opened_at, self.gathered_at = None, 0, None
         self.met, self.awaited, self.burst, self.turns = set(), set(), 0, 0
+        self.clock, self.has_turned = 0, False
         self.host, self.newcomer, self.hosts = Host(self), None, []
 
     # ---- epochs
@@ -162,11 +166,12 @@ class Machine:
         if datagram.kind == LINE:
             self.hear_line(datagram, now)
             return
+        self.clock = self.clock if datagram.kind in (MAP, CARRIED) else now
         epoch = None if self.over else self.unseal(datagram)
         if epoch is None:
             return
         if datagram.kind != HELLO:
-            self.straight_at[datagram.sender] = now
+            self.straight_at[datagram.sender] = self.clock
         if datagram.kind == MAP:
             epoch.lines.learn(datagram.body, self.turns)
         elif datagram.kind == CARRIED:
@@ -186,9 +191,10 @@ class Machine:
         for parcel in datagram.body:
             receiver, _, inner = parcel
             if receiver != self.name:
-                if not self.swallows and not self.byes:
-                    epoch.lines.hand_on(parcel, self.heard_straight(epoch, now), epoch.mesh.gone)
+                if not self.swallows and not epoch.mesh.gone & (1 << receiver | 1 << inner.sender):
+                    epoch.lines.hand_on(parcel, self.shut(epoch))
             elif inner.kind in (HELLO, PLAY, BYE):
+                self.clock = now
                 found = self.unseal(inner)
                 if found:
                     self.hear(found, inner, now)
@@ -220,6 +226,7 @@ class Machine:
         """Who is silent is gone, players leave, and the match goes on by a frame."""
         if self.over or self.byes or self.epoch is None:
             return
+        self.clock, self.has_turned = now, True
         self.look_after(now)
         for epoch in self.epochs():
             epoch.mesh.let_leave()
@@ -365,12 +372,14 @@ class Machine:
         if self.over:
             return []
         self.turns += 1
+        self.clock = now
         out = self.send_lines()
         if self.epoch is None:
             return out
         contents = self.contents(now)
         for epoch in self.epochs():
             self.send_in(epoch, contents, now, out)
+        self.has_turned = False
         self.byes -= self.byes > 0
         self.over = self.why is not None and not self.byes
         return out
@@ -398,34 +407,40 @@ class Machine:
                 contents[machine] = PLAY, contact.clocks(now)
         return contents
 
+    def shut(self, epoch):
+        """The mask of the machines with which this one carries nothing: they are gone, or it doesn't play with them yet."""
+        return epoch.mesh.gone | mask(m for m in epoch.mesh.staying() if not self.contacts[m].playing)
+
     def send_in(self, epoch, contents, now, out):
         """What goes out in one epoch."""
-        lines, gone = epoch.lines, epoch.mesh.gone
-        heard = self.heard_straight(epoch, now)
-        lines.look(heard, self.turns)
+        lines, shut, staying = epoch.lines, self.shut(epoch), epoch.mesh.staying()
+        if self.has_turned:
+            lines.look(self.heard_straight(epoch, now), self.turns)
         if self.forges:
             lines.forge(self.turns)
-        for machine in sorted(epoch.mesh.staying(), key=lambda it: not lines.is_broken(it, heard)):
+        for machine in staying:
             datagram = self.datagram(epoch, machine, *contents[machine]) if machine in contents else None
             if datagram:
-                self.send_one(lines, datagram, heard, gone, out)
-            if self.contacts[machine].playing and lines.tells_map(self.turns):
+                self.send_one(lines, datagram, shut, out)
+        for machine in staying if self.has_turned and lines.tells_map(self.turns) else ():
+            if not shut >> machine & 1:
                 entries = lines.entries()
                 out.append((machine, self.seal(epoch, machine, MAP, entries, sizes.map_size(entries))))
         for hop, size, parcels in lines.take_waiting():
-            if self.contacts[hop].playing:
-                out.append((hop, self.seal(epoch, hop, CARRIED, parcels, size)))
+            if not shut >> hop & 1:
+                is_alone = len(parcels) == 1 and parcels[0][1] == 0
+                out.append((hop, parcels[0][2] if is_alone else self.seal(epoch, hop, CARRIED, parcels, size)))
 
-    def send_one(self, lines, datagram, heard, gone, out):
-        """A datagram goes straight, or to a carrier, or both ways. What goes straight goes with the parcels that wait for the same
-        machine."""
-        machine = datagram.receiver
-        carrier = lines.carrier(machine, self.name, gone) if lines.is_broken(machine, heard) else None
+    def send_one(self, lines, datagram, shut, out):
+        """A datagram goes straight, or to a carrier, or both ways. What goes straight waits to go with what is carried to the same
+        machine, if there may be something; a bye doesn't."""
+        machine, is_bye = datagram.receiver, datagram.kind == BYE
+        carrier = lines.carrier(machine, self.name, shut) if lines.is_broken(machine) else None
         if carrier is not None:
             lines.wait(carrier, (machine, STEPS, datagram))
-        if lines.goes_straight(machine, self.turns, carrier):
+        if is_bye or lines.goes_straight(machine, self.turns, carrier):
             parcel = machine, 0, datagram
-            if not (holds("together") and self.contacts[machine].playing and machine in lines.waiting and lines.wait(machine, parcel)):
+            if is_bye or not (lines.has_company(machine, shut) and lines.wait(machine, parcel)):
                 out.append((machine, datagram))
 
     def datagram(self, epoch, machine, kind, content):

@@ -1,6 +1,6 @@
 /* Sessions in one process whose wire is a list in memory, which loses datagrams, brings some twice, and all of them late and in another
  * order. Three machines with four players, and a spectator, must step by the inputs of a plain run, as they do over sockets; so must a
- * machine that was stopped and comes back. Then what is refused. It prints nothing if all is right. wire PORT */
+ * machine that was stopped and comes back, also if all three guess. Then what is refused. It prints nothing if all is right. wire PORT */
 #include <fazgrond.h>
 #include <ggponet.h>
 #include <stdio.h>
@@ -16,7 +16,7 @@
     } while (0)
 
 enum { PLAYERS = 4, MACHINES = 3, VIEWER = MACHINES, ALL, FRAMES = 400, MOST = 5000, WAITING = 512, LOST = 20, TWICE = 10,
-       LATE = 12 };
+       LATE = 12, JOBS = 4, HELD = 12, ROWS = 8 };
 
 /* Where each player sits. */
 static const int home[PLAYERS] = { 0, 1, 0, 2 };
@@ -32,15 +32,27 @@ typedef struct datagram {
 static datagram list[WAITING];
 static unsigned long sent, lost, twice, overtaken;
 
+/* The game's state has the numbers at its last frames too: a helper that plays some at once has them looked at, each of them. */
 static struct game {
     int frame;
     unsigned number;
+    unsigned last[ROWS];
     unsigned at[MOST]; /* the number at each frame, as it was played last */
     int again, buffers, is_running, epochs, gone;
     unsigned long newest; /* of those that came, the one that was sent last */
     bool is_cut;          /* what it sends is lost */
+    bool has_helper;
+    FazggpoJob *held; /* a job that its helper has fetched, and runs so many turns later */
+    int turns_left;
     GGPOSession *session;
 } games[ALL];
+
+/* What the helpers play, on the same thread. */
+static struct {
+    int frame;
+    unsigned number;
+    unsigned last[ROWS];
+} helped;
 
 /* The one of whom a call is being made: GGPO's callbacks aren't told. */
 static struct game *game;
@@ -135,7 +147,10 @@ static void empty(void) {
 
 /* ---- the game */
 
+/* Players who are guessed press a button and let it go. */
 static unsigned short input_of(int player, int frame) {
+    if (game->has_helper)
+        return frame % (10 + 2 * player) < 5 ? 1 : 2;
     return (unsigned short)((unsigned)(frame / (player + 1) * 7 + player) * 2654435761u >> 16);
 }
 
@@ -147,7 +162,7 @@ static unsigned step_of(unsigned number, const unsigned short *inputs) {
 
 static void note(void) {
     MUST(game->frame < MOST);
-    game->at[game->frame] = game->number;
+    game->at[game->frame] = game->last[game->frame % ROWS] = game->number;
 }
 
 static void step(const unsigned short *inputs) {
@@ -158,7 +173,7 @@ static void step(const unsigned short *inputs) {
 
 static bool on_save(unsigned char **buffer, int *len, int *checksum, int frame) {
     MUST(frame == game->frame);
-    *len = 2 * sizeof(int);
+    *len = sizeof helped;
     *buffer = malloc((size_t)*len);
     MUST(*buffer != NULL);
     memcpy(*buffer, game, (size_t)*len);
@@ -168,9 +183,10 @@ static bool on_save(unsigned char **buffer, int *len, int *checksum, int frame) 
 }
 
 static bool on_load(unsigned char *buffer, int len) {
-    MUST(len == 2 * sizeof(int));
+    MUST(len == sizeof helped);
     memcpy(game, buffer, (size_t)len);
-    note();
+    for (int frame = game->frame; frame >= 0 && frame > game->frame - ROWS; frame--)
+        game->at[frame] = game->last[frame % ROWS];
     return true;
 }
 
@@ -195,6 +211,61 @@ static bool on_event(GGPOEvent *info) {
     return true;
 }
 
+/* ---- its helper */
+
+static bool helper_load(void *helper, const unsigned char *buffer, int len) {
+    MUST(helper == &helped && len == sizeof helped);
+    memcpy(&helped, buffer, sizeof helped);
+    return true;
+}
+
+static bool helper_advance(void *helper, const void *inputs, int size, int gone) {
+    unsigned short all[PLAYERS];
+    MUST(helper == &helped && size == sizeof all && gone < 1 << PLAYERS);
+    memcpy(all, inputs, sizeof all);
+    helped.number = step_of(helped.number, all);
+    helped.frame++;
+    helped.last[helped.frame % ROWS] = helped.number;
+    return true;
+}
+
+static bool helper_save(void *helper, unsigned char **buffer, int *len, int *checksum, int frame) {
+    MUST(helper == &helped && frame == helped.frame);
+    *len = sizeof helped;
+    *buffer = malloc((size_t)*len);
+    MUST(*buffer != NULL);
+    memcpy(*buffer, &helped, sizeof helped);
+    *checksum = (int)helped.number;
+    game->buffers++;
+    return true;
+}
+
+static void run(FazggpoJob *job) {
+    const FazggpoHelper helper = { .helper = &helped, .load_state = helper_load, .advance_state = helper_advance,
+                                   .save_state = helper_save };
+    MUST(fazggpo_run_job(job, &helper));
+}
+
+static void run_held(void) {
+    if (game->held != NULL)
+        run(game->held);
+    game->held = NULL;
+}
+
+/* It runs all jobs that are there; but one of them it holds for so long that the match may go on in another epoch meanwhile. */
+static void help(void) {
+    FazggpoJob *job;
+    if (game->held != NULL && --game->turns_left == 0)
+        run_held();
+    while (game->has_helper && (job = fazggpo_fetch_job(game->session, 0)) != NULL)
+        if (game->held != NULL) {
+            run(job);
+        } else {
+            game->held = job;
+            game->turns_left = HELD;
+        }
+}
+
 static GGPOSessionCallbacks calls = { .save_game_state = on_save, .load_game_state = on_load, .free_buffer = on_free,
                                       .advance_frame = on_advance, .on_event = on_event };
 static char name[] = "wire";
@@ -207,6 +278,7 @@ typedef struct way {
     bool by_wire;     /* else over sockets */
     bool has_numbers; /* each pair has its own */
     bool can_rejoin;
+    bool has_helpers;
 } way;
 
 /* On a wire addresses are names: this one isn't there. */
@@ -228,6 +300,8 @@ static void set_up(const way *by) {
     MUST(fazggpo_set_speed(game->session, speed) == GGPO_OK && ggpo_set_disconnect_timeout(game->session, 0) == GGPO_OK);
     MUST((by->by_wire ? fazggpo_set_wire(game->session, &wire) : fazggpo_set_line(game->session, 50, LOST, 0)) == GGPO_OK);
     MUST(!by->can_rejoin || fazggpo_rejoin(game->session) == GGPO_OK);
+    MUST(!by->has_helpers || fazggpo_guess(game->session, JOBS) == GGPO_OK);
+    game->has_helper = by->has_helpers;
 }
 
 static uint64_t number_of(int one, int other) { return 0x1234567890abcdefu * (uint64_t)(1 + one + other + 10 * one * other); }
@@ -281,6 +355,7 @@ static void turn(int me) {
         MUST(ggpo_advance_frame(game->session) == GGPO_OK);
     }
     MUST(ggpo_idle(game->session, turn_time) == GGPO_OK);
+    help();
 }
 
 static void turn_all(int count) {
@@ -301,8 +376,15 @@ static int settled_by_all(void) {
     return least;
 }
 
+static int guesses_used(int me) {
+    FazggpoGuesses guesses;
+    MUST(fazggpo_get_guesses(games[me].session, &guesses) == GGPO_OK);
+    return guesses.used;
+}
+
 static void end(int me) {
     game = &games[me];
+    run_held();
     MUST(ggpo_close_session(game->session) == GGPO_OK && game->buffers == 0);
 }
 
@@ -353,9 +435,9 @@ static void is_alike(int from, int last) {
 }
 
 /* Machine 2 stops without a word, and is begun anew: it comes back. Three machines take a turn in the time of one. */
-static void comes_back(void) {
-    way by = { .by_wire = true, .can_rejoin = true };
-    int from = 0;
+static void comes_back(bool has_helpers) {
+    way by = { .by_wire = true, .can_rejoin = true, .has_helpers = has_helpers };
+    int from = 0, used = 0;
     speed = 4, turn_time = 5;
     empty();
     for (int me = 0; me < MACHINES; me++)
@@ -369,9 +451,11 @@ static void comes_back(void) {
     for (int turns = 0; games[2].epochs == 0 || settled_by_all() < from + 200; turns++) {
         MUST(turns < 4000);
         turn_all(MACHINES);
+        used = games[2].epochs == 0 ? guesses_used(0) : used;
         (void)fazggpo_get_settled_from(games[2].session, &from);
     }
     MUST(games[0].gone > 0 && games[1].gone > 0 && games[0].epochs > 0 && games[1].epochs > 0);
+    MUST(guesses_used(0) > used || !has_helpers);
     is_alike(from, settled_by_all());
     for (int me = 0; me < MACHINES; me++)
         end(me);
@@ -475,7 +559,8 @@ int main(int count, char **words) {
     plays(&by_socket_with_numbers);
     plays_on_wire(false);
     plays_on_wire(true);
-    comes_back();
+    comes_back(false);
+    comes_back(true);
     strangers();
     game = &games[0];
     refused_wires();
