@@ -31,9 +31,6 @@ static void is(int64_t got, int64_t wanted, int line) {
 
 enum { PLACES = 5, SLOTS = 64, KEPT = 8192, UNDER_WAY = 4096, TURN = 16, NOBODY = 99, STEPS = 16, MOST_STATE = 1 << 20 };
 
-/* Bytes of a piece beside those of the state. */
-enum { PIECE_HEAD = 66 };
-
 typedef struct datagram {
     uint32_t due, from;
     size_t length;
@@ -65,8 +62,6 @@ typedef struct place {
     bool is_closing, is_here; /* a seam is carried out; it has begun to play */
     bool is_fewer;            /* somebody has left in this turn */
     uint32_t me, wait, begun, came_at, gave, frames_stood, epochs, desyncs;
-    uint64_t state;                /* the last state of which pieces were sent to it, .. */
-    size_t states_sent, bytes_sent; /* .. how many there were, and how many bytes of them were sent, again and again */
     datagram *line;
     size_t on_the_way;
 } place;
@@ -140,21 +135,8 @@ static void keep(place *self, const fazgrond_row *row) {
 
 /* ---- Datagrams. */
 
-/* Pieces of states are counted, lost ones too. */
-static void count_piece(uint32_t from, uint32_t to, const uint8_t *bytes, size_t length) {
-    place *other = &all[to];
-    fazgrond_state_name name;
-    if (fazgrond_state_told(number_of(from, to), bytes, length, &name) != FAZGROND_OK || name.which == FAZ_TABLE_STATE)
-        return;
-    other->states_sent += other->states_sent == 0 || name.which != other->state;
-    other->state = name.which;
-    other->bytes_sent += length - PIECE_HEAD;
-}
-
 static void post(uint32_t from, uint32_t to, const uint8_t *bytes, size_t length) {
     place *other = &all[to];
-    if (other->mode == COMES)
-        count_piece(from, to, bytes, length);
     if (other->mode == OFF || below(100) < with.loss)
         return;
     IS(other->on_the_way < UNDER_WAY, true);
@@ -545,10 +527,7 @@ static uint32_t turns_to_come(uint32_t at, uint32_t most) {
 
 /* ---- Cases. */
 
-/* How often the bytes of the states were sent that a place was given. */
-static double times_sent(const place *back) { return (double)back->bytes_sent / (double)(back->states_sent * with.size); }
-
-/* A program stops, and is begun again so many turns later. On a line that loses nothing hardly a byte of a state comes twice. */
+/* A program stops, and is begun again so many turns later. */
 static uint32_t come_back(terms of, uint32_t before, uint32_t after) {
     uint32_t at = of.machines - 1;
     begin(of);
@@ -562,7 +541,6 @@ static uint32_t come_back(terms of, uint32_t before, uint32_t after) {
     all_play(of.machines);
     words_count(at, 0);
     IS(all[0].desyncs + all[at].desyncs, 0);
-    IS(all[at].states_sent > 0 && (of.loss > 0 || times_sent(&all[at]) < 1.2), true);
     return turns;
 }
 
@@ -858,11 +836,8 @@ static void is_drawn(uint32_t number, uint32_t none) {
 static void say_time(uint32_t machines, uint32_t after) {
     for (uint32_t before = 200; before <= 1500; before += 1300) {
         uint32_t turns = come_back(terms_for(machines), before, after);
-        const place *back = &all[machines - 1];
-        printf("%u machines, %.1f s after the crash, %.1f s into the match: back in %.2f s; the others stood for %u turns; "
-               "%zu states, whose bytes were sent %.2f times\n",
-               (unsigned)machines, after * 0.016, before * 0.016, turns * 0.016, (unsigned)all[0].frames_stood, back->states_sent,
-               times_sent(back));
+        printf("%u machines, %.1f s after the crash, %.1f s into the match: back in %.2f s; the others stood for %u turns\n",
+               (unsigned)machines, after * 0.016, before * 0.016, turns * 0.016, (unsigned)all[0].frames_stood);
     }
 }
 

@@ -12,7 +12,6 @@ enum {
     RARELY = 8,     /* of so many turns, in one the table is asked for, if nothing is to come soon */
     NEAR = 120,     /* rows that are stepped sooner than another state comes .. */
     FEW = 8,        /* .. and those that come in a turn or two */
-    UNKNOWN = 250,  /* milliseconds that a piece may take, as long as none has come */
     STANDS = 500,   /* milliseconds without a row after which the state of the next epoch is taken: that isn't told any more .. */
     PATIENCE = 2000 /* .. and without anything new, after which another host is followed */
 };
@@ -48,9 +47,7 @@ static void follow(faz_comer *self, uint32_t host, const faz_table *table) {
     self->state = NULL;
     self->host = host;
     self->table = *table;
-    self->has_state = self->has_next = self->is_fresh = self->has_piece = false;
-    self->to_ask = (table->state.length + FAZGROND_PIECE - 1) / FAZGROND_PIECE;
-    self->first_at = self->now;
+    self->has_state = self->has_next = self->is_fresh = false;
     open_viewer(self);
 }
 
@@ -92,9 +89,6 @@ static void hear_state(faz_comer *self, uint32_t machine, const uint8_t *bytes, 
     }
     if (heard.what != FAZGROND_PIECE_AGAIN)
         self->moved_at = self->now;
-    if (!self->has_piece)
-        self->piece_takes = self->now - self->first_at;
-    self->has_piece = true;
     if (heard.what != FAZGROND_STATE_WHOLE)
         return;
     self->state = malloc(self->table.state.length);
@@ -152,29 +146,6 @@ static bool has_stepped_all(const faz_comer *self, const fazgrond_line_state *st
     return self->has_state && !self->is_fresh && state->rows <= self->rows + FEW;
 }
 
-/* So long after some pieces were asked for last, those that are missing were lost: half as long again as the first one took. */
-static bool were_lost(const faz_comer *self) {
-    uint32_t takes = self->has_piece ? self->piece_takes : UNKNOWN;
-    return self->now - self->asked_at > takes + takes / 2;
-}
-
-/* All pieces that are missing are asked for, and none again that may be under way. */
-static void ask_for_pieces(faz_comer *self) {
-    uint8_t bytes[FAZGROND_DATAGRAM];
-    fazgrond_taker_state state;
-    size_t length;
-    if (self->has_state || fazgrond_taker_look(&self->taker, &state) != FAZGROND_OK)
-        return;
-    if (self->to_ask == 0 && were_lost(self))
-        self->to_ask = state.left;
-    size_t most = self->to_ask < PIECES ? self->to_ask : PIECES;
-    if (most == 0 || fazgrond_taker_send(&self->taker, self->numbers[self->host], ASKER, most, bytes, sizeof bytes, &length) != FAZGROND_OK)
-        return;
-    self->to_ask -= most;
-    self->asked_at = self->now;
-    self->send(self->of, self->host, bytes, length);
-}
-
 static void ask_host(faz_comer *self) {
     uint8_t bytes[FAZGROND_DATAGRAM];
     fazgrond_line_state state = { 0 };
@@ -184,7 +155,10 @@ static void ask_host(faz_comer *self) {
         ask_for(self, self->host, FAZ_READY_STATE, (uint32_t)self->table.epoch.id);
     if (is_ready || self->turns % RARELY == 0)
         ask_for(self, self->host, FAZ_TABLE_STATE, 0);
-    ask_for_pieces(self);
+    if (!self->has_state
+        && fazgrond_taker_send(&self->taker, self->numbers[self->host], ASKER, PIECES, bytes, sizeof bytes, &length)
+            == FAZGROND_OK)
+        self->send(self->of, self->host, bytes, length);
     if (fazgrond_viewer_send(&self->viewer, self->now, bytes, sizeof bytes, &length) == FAZGROND_OK)
         self->send(self->of, self->host, bytes, length);
 }

@@ -100,9 +100,6 @@ typedef struct faz_comer {
     bool has_clock, is_in, has_next, is_fresh;
     uint32_t now, moved_at, turns;
     faz_table table, next;
-    size_t to_ask;       /* so many pieces are to be asked for before it waits for them */
-    bool has_piece;      /* one has come, .. */
-    uint32_t first_at, piece_takes, asked_at; /* .. so long after the first was asked for; and when some were asked for last */
     fazgrond_taker taker;
     fazgrond_viewer viewer;
     uint8_t *state; /* the bytes that came, until they were asked for */
