@@ -81,6 +81,7 @@ typedef struct terms {
     uint32_t owners[FAZGROND_PLAYERS], delays[FAZGROND_PLAYERS];
     uint32_t frames, latency, jitter, loss, answers;
     bool tells_all; /* what has come is played before an epoch ends, so that all its rows are told of it afterwards */
+    bool is_steady; /* a player's words are all the same, so that what is predicted of them is right */
 } terms;
 
 /* A mark that a machine has put on a word: in which epoch, and on that of which frame of it. */
@@ -555,9 +556,9 @@ static void hand_over(machine *self) {
     OK(fazgrond_peer_hand_over_due(&self->peer, &self->session, &handed));
 }
 
-/* A player's words: each names it, and the later ones are the greater ones. */
+/* A player's words: each names it, and the later ones are the greater ones, unless they are all the same. */
 static uint32_t word_of(const machine *self, uint32_t player) {
-    return (player + 1) << 24 | (self->gave[player] / (player + 1) + 1);
+    return (player + 1) << 24 | (with.is_steady ? 1 : self->gave[player] / (player + 1) + 1);
 }
 
 /* A word of an own player, in the frame that its delay says. */
@@ -1064,6 +1065,24 @@ static void stops_as_it_begins(uint32_t alone, uint32_t delay) {
     cut(0, 2, false);
     run_to_the_end(1000);
     IS(epochs_played(), 3);
+}
+
+/* One of three hears nothing of another, and puts a mark so many turns later. The other stops before it hears of that: the third one has
+ * its words past the mark, and its own past it have come as well. All are as they were predicted. Whoever takes them at once has no state
+ * at the end any more. */
+static void keeps_the_end(uint32_t delay, uint32_t late) {
+    terms of = terms_for(3);
+    of.is_steady = true;
+    of.delays[1] = of.delays[2] = delay;
+    open_all(of);
+    run(80);
+    cut(0, 2, true);
+    run(late);
+    OK(put(0, 0, mark_of_nothing()));
+    run(2);
+    stop(2);
+    run_to_the_end(1000);
+    IS(epochs_played(), 2);
 }
 
 /* ---- Bad lines. */
@@ -1767,6 +1786,9 @@ static void try_stops(uint32_t every) {
     for (uint32_t alone = 0; alone <= 2 * AROUND; alone += every)
         for (uint32_t delay = 0; delay <= 4; delay += every < 4 ? 2 : 4)
             tries("a machine stops as an epoch begins", stops_as_it_begins, alone, delay);
+    for (uint32_t delay = 1; delay <= 4; delay += every < 4 ? 1 : 3)
+        for (uint32_t late = 2; late <= 6; late += every < 4 ? 1 : 2)
+            tries("who lacks words keeps the end", keeps_the_end, delay, late);
 }
 
 static void try_lines(uint32_t every) {

@@ -323,7 +323,8 @@ impl PeersOptions {
         self.delays[0].is_some() || self.has_comers()
     }
 
-    /// How many epochs more than one the match has at most: each delay that is named may begin another.
+    /// How many epochs more than one the match may have, and engines more than machines: each delay that is named may begin an epoch, and
+    /// so does who comes, with an engine of its own.
     pub fn count_spares(&self) -> u32 {
         let delays = self.delays.iter().filter(|named| named.is_some()).count();
         let comes = self.comes.iter().filter(|come| come.is_some()).count();

@@ -1,5 +1,5 @@
 -- What a session hears of a packet that has the same frames of all words of an input.
-use Rattle.std.proofs.Common.{◌≡◌, ◌⊎◌, ◌∙◌, ℕ, zero, suc, ◌+◌, ◌-◌, ◌<◌, ◌≤◌, List, [], ◌∷◌, drop, get_or, length, min, take, refl, ap, sym, subst, arith, inl, inr, true, false, Option, Some, None}
+use Rattle.std.proofs.Common.{◌≡◌, ◌⊎◌, ◌∙◌, ℕ, zero, suc, ◌+◌, ◌-◌, ◌<◌, ◌≤◌, List, [], ◌∷◌, drop, get_or, length, min, take, refl, ap, sym, subst, arith, inl, inr, Bool, true, false, Option, Some, None}
 use Rattle.std.specs.Prelude.{is_some, nat_le, nat_lt, not, slice_get, slice_index, slice_index_or, ◌==◌}
 use Rattle.std.proofs.lemmas.Bool.{cases_Bool, eqb-true, false≢true, leb-true, lt-ltb, ltb-true, ne_eqb, not-true, not_from_false}
 use Rattle.std.proofs.lemmas.List.{length-drop, length-take}
@@ -21,7 +21,7 @@ use Rattle.roll_session.specs.Headline.{words_of}
 use Rattle.roll_session.specs.Seen.{Seen, Step}
 use Rattle.roll_wire.specs.Spelling.{count_of as offered_of}
 use Rattle.roll_member.specs.Joined.{is_gone_at, is_local_at, AreCounts, IsTied}
-use Rattle.roll_member.specs.Taking.{counted_to, news, news_at, shares, up_to, words_heard, Hearing, IsFair, TakesAll}
+use Rattle.roll_member.specs.Taking.{counted_to, are_full, news, news_at, shares, up_to, words_heard, Hearing, IsFair, TakesAll}
 use Rattle.roll_member.proofs.Known.{known_other}
 use Rattle.roll_member.proofs.Tied.{counted_under, heard_step, taken_left, taken_own, taken_up, up_to_at, IsHeardUpTo}
 use Rattle.roll_member.proofs.Taking.{news_length}
@@ -58,7 +58,7 @@ news_long offer words has most = omega (
 
 -- ---- a player of another machine
 
-there_at : (players : List Player) (p : ℕ) (d : Player) → p < length players
+pub there_at : (players : List Player) (p : ℕ) (d : Player) → p < length players
     → player_at players (p + 1) ≡ Some (get_or players p d)
 there_at players p d lt =
     let place : p + 1 - 1 ≡ p = omega arith in
@@ -101,7 +101,7 @@ module _ (s : Seen) (mesh : Seated) (packet : Packet) (words : List ℕ) (end : 
     offers = packet.offers;
     words = shares packet.offers (words_heard mesh.seat.words packet.offers words);
     has = mesh.machine.has;
-    most = up_to mesh.seat mesh.machine.gone end mesh.machine.has (taken mesh.seat packet mesh.machine).has;
+    most = up_to mesh.seat mesh.machine end (taken mesh.seat packet mesh.machine).has;
   }
 
   pub fair_of : IsTied s mesh → hear_refusal mesh packet ≡ None → IsFair heard_of s
@@ -123,17 +123,20 @@ module _ (s : Seen) (mesh : Seated) (packet : Packet) (words : List ℕ) (end : 
       all_of = (taken mesh.seat packet mesh.machine).has
 
       most : List ℕ
-      most = up_to mesh.seat mesh.machine.gone end has all_of
+      most = up_to mesh.seat mesh.machine end all_of
+
+      full : Bool
+      full = are_full mesh.seat mesh.machine end all_of
 
       up : (p : ℕ) → p < PLAYER_LIMIT → slice_index has p ≤ slice_index most p
-      up p lt = omega (arith, up_to_at mesh.seat mesh.machine.gone end has all_of p lt)
+      up p lt = omega (arith, up_to_at mesh.seat mesh.machine end all_of p lt)
 
       under : (p : ℕ) → p < PLAYER_LIMIT → slice_index most p ≤ slice_index all_of p
       under p lt =
           omega (
             arith,
-            up_to_at mesh.seat mesh.machine.gone end has all_of p lt,
-            counted_under mesh.seat mesh.machine.gone end all_of p,
+            up_to_at mesh.seat mesh.machine end all_of p lt,
+            counted_under mesh.seat mesh.machine.gone full end all_of p,
             taken_up mesh.seat packet mesh.machine p (omega (arith, lt, tied.sized)),
           )
 
@@ -223,16 +226,16 @@ module _ (s : Seen) (mesh : Seated) (packet : Packet) (words : List ℕ) (end : 
           all_alike = taken_alike mesh.seat mesh.machine packet tied.whole.grouped (omega (arith, tied.sized))
               tied.whole.counts tied.whole.parts (heard_even mesh packet fine) p lt
 
-          counted_alike : counted_to mesh.seat mesh.machine.gone end all_of p
-              ≡ counted_to mesh.seat mesh.machine.gone end all_of q
+          counted_alike : counted_to mesh.seat mesh.machine.gone full end all_of p
+              ≡ counted_to mesh.seat mesh.machine.gone full end all_of q
           counted_alike = rw (owners_alike mesh.seat tied.whole.grouped p lt, all_alike) refl
 
           most_alike : slice_index most p ≡ slice_index most q
           most_alike = omega (
             arith,
             tied.whole.counts p lt,
-            up_to_at mesh.seat mesh.machine.gone end has all_of p lt,
-            up_to_at mesh.seat mesh.machine.gone end has all_of q (first_below mesh.seat.words p lt),
+            up_to_at mesh.seat mesh.machine end all_of p lt,
+            up_to_at mesh.seat mesh.machine end all_of q (first_below mesh.seat.words p lt),
             counted_alike,
           )
 

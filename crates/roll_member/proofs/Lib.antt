@@ -11,3 +11,4 @@ pub mod Partings
 pub mod Holding
 pub mod Beside
 pub mod Again
+pub mod Behind

@@ -1,6 +1,6 @@
 -- What keeps a session tied to its mesh.
 use Rattle.std.proofs.Common.{◌≡◌, ◌∙◌, ◌⊎◌, ℕ, ◌+◌, ◌<◌, ◌≤◌, List, [], ◌∷◌, ◌++◌, drop, take, append-nil, cond, length-append, arith, length, refl, ap, sym, subst, Bool, true, false, Option, Some, None, Result, Ok, Err, inl, inr}
-use Rattle.std.specs.Prelude.{is_none, is_some, not, nat_lt, ◌-◌, ◌||◌, OnOk, OnErr, max, min, nat_le, slice_index, slice_index_or, slice_set, ◌==◌, ◌&&◌, if◌then◌else◌}
+use Rattle.std.specs.Prelude.{is_none, is_some, not, nat_lt, ◌-◌, ◌||◌, OnOk, OnErr, max, nat_le, slice_index, slice_index_or, slice_set, ◌==◌, ◌&&◌, if◌then◌else◌}
 use Rattle.roll_frame.specs.Inputs.{local_tests, of_player, player_at, with_given}
 use Rattle.roll_frame.specs.Timeline.{Player}
 use Rattle.roll_session.specs.Changes.{after_local, local_refusal}
@@ -36,7 +36,7 @@ use Rattle.roll_session.specs.Headline.{words_of}
 use Rattle.roll_session.specs.Seen.{Seen, Step}
 use Rattle.roll_member.specs.Joined.{count_of, held, known, words_known, are_fresh, are_seated, is_fresh_at, is_gone_at, is_local_at, is_seated_at, join_refusal, AreCounts, IsTied, IsTiedAt, IsWhole}
 use Rattle.roll_member.specs.Beside.{caught_up, IsSteady}
-use Rattle.roll_member.specs.Taking.{counted_to, news_at, up_to, Hearing, IsFair, KeepsPlayers, TakesAll}
+use Rattle.roll_member.specs.Taking.{counted_to, are_full, news_at, up_to, Hearing, IsFair, KeepsPlayers, TakesAll}
 use Rattle.roll_member.proofs.Known.{known_alike, known_alone, known_other, known_stays}
 use Rattle.roll_member.proofs.Taking.{fed, keeps_none, news_length, IsFed}
 use Rattle.roll_frame.specs.declared.refusal.Refusal.{Refusal}
@@ -258,20 +258,22 @@ heard_holder seat reached packet words holder now e =
     ap (λ ws. record { mesh = hear seat (trimmed reached packet) holder.mesh; words = ws }) e
 
 -- no fewer than there are, and no more than count
-pub up_to_at : (seat : Seat) (gone : List Bool) (end : ℕ) (has most : List ℕ) (p : ℕ) → p < PLAYER_LIMIT
-    → slice_index (up_to seat gone end has most) p ≡ max (slice_index has p) (counted_to seat gone end most p)
+pub up_to_at : (seat : Seat) (machine : Machine) (end : ℕ) (most : List ℕ) (p : ℕ) → p < PLAYER_LIMIT
+    → slice_index (up_to seat machine end most) p
+    ≡ max (slice_index machine.has p) (counted_to seat machine.gone (are_full seat machine end most) end most p)
 unfolding up_to
-up_to_at seat gone end has most p lt =
-    get_or-map-range_with_len (λ p. max (slice_index has p) (counted_to seat gone end most p)) 0 PLAYER_LIMIT p p 0 lt
-    (omega arith)
+up_to_at seat machine end most p lt =
+    get_or-map-range_with_len
+    (λ p. max (slice_index machine.has p) (counted_to seat machine.gone (are_full seat machine end most) end most p)) 0
+    PLAYER_LIMIT p p 0 lt (omega arith)
 
-pub counted_under : (seat : Seat) (gone : List Bool) (end : ℕ) (most : List ℕ) (p : ℕ)
-    → counted_to seat gone end most p ≤ slice_index most p
-counted_under seat gone end most p = go (cases_Bool (is_orphan seat gone p))
+pub counted_under : (seat : Seat) (gone : List Bool) (full : Bool) (end : ℕ) (most : List ℕ) (p : ℕ)
+    → counted_to seat gone full end most p ≤ slice_index most p
+counted_under seat gone full end most p = go (cases_Bool (is_orphan seat gone p && not full))
   where
-    go : (is_orphan seat gone p ≡ true) ⊎ (is_orphan seat gone p ≡ false)
-        → counted_to seat gone end most p ≤ slice_index most p
-    go (inl orphan) = rw orphan (omega arith)
+    go : ((is_orphan seat gone p && not full) ≡ true) ⊎ ((is_orphan seat gone p && not full) ≡ false)
+        → counted_to seat gone full end most p ≤ slice_index most p
+    go (inl past) = rw past (omega arith)
     go (inr isnt) = rw isnt (omega arith)
 
 -- the mesh hears of a packet what the session took of it, and they stay tied
@@ -283,6 +285,8 @@ module _ (step : Step) (s0 s1 : Seen) (mesh : Seated) (packet : Packet) (words :
   pub record IsHeardUpTo : Type 0 where
     pub has : heard_up_to.machine.has ≡ reached
     pub alike : AreAlike mesh.seat.words (slice_index reached)
+    pub most : (p : ℕ) → p < PLAYER_LIMIT → slice_index reached p
+        ≤ slice_index (up_to mesh.seat mesh.machine end (taken mesh.seat packet mesh.machine).has) p
     pub tied : IsTied s1 heard_up_to
     pub held_is : held (record { session = s1; mesh = heard_up_to })
         ≡ hear_words mesh.seat reached (record { packet = packet; words = words })
@@ -295,18 +299,19 @@ module _ (step : Step) (s0 s1 : Seen) (mesh : Seated) (packet : Packet) (words :
         offers = packet.offers;
         words = words;
         has = mesh.machine.has;
-        most = up_to mesh.seat mesh.machine.gone end mesh.machine.has (taken mesh.seat packet mesh.machine).has;
+        most = up_to mesh.seat mesh.machine end (taken mesh.seat packet mesh.machine).has;
       }) s0
       → TakesAll step (record {
         input = mesh.seat.words;
         offers = packet.offers;
         words = words;
         has = mesh.machine.has;
-        most = up_to mesh.seat mesh.machine.gone end mesh.machine.has (taken mesh.seat packet mesh.machine).has;
+        most = up_to mesh.seat mesh.machine end (taken mesh.seat packet mesh.machine).has;
       }) s0 PLAYER_LIMIT s1 led why → AreCounts s1 mesh.seat reached → IsHeardUpTo
   heard_step led tied fine sized many fair takes counts = record {
     has = has;
     alike = alike;
+    most = λ p lt. (bounds p lt).1;
     tied = tied_after s0 s1 mesh heard_up_to tied f.players here (ap (λ (ns : List ℕ). length ns) has ∙ many)
         (λ p lt. ap (λ ns. slice_index ns p) has ∙ counts p lt) refl
         (whole_heard mesh (trimmed reached packet) tied.whole (trimmed_even mesh.seat reached packet alike
@@ -333,7 +338,7 @@ module _ (step : Step) (s0 s1 : Seen) (mesh : Seated) (packet : Packet) (words :
       all = (taken mesh.seat packet mesh.machine).has
 
       most : List ℕ
-      most = up_to mesh.seat mesh.machine.gone end mesh.machine.has all
+      most = up_to mesh.seat mesh.machine end all
 
       h : Hearing
       h = record {
@@ -363,14 +368,14 @@ module _ (step : Step) (s0 s1 : Seen) (mesh : Seated) (packet : Packet) (words :
           )
 
       up : (p : ℕ) → p < PLAYER_LIMIT → slice_index mesh.machine.has p ≤ slice_index most p
-      up p lt = omega (arith, up_to_at mesh.seat mesh.machine.gone end mesh.machine.has all p lt)
+      up p lt = omega (arith, up_to_at mesh.seat mesh.machine end all p lt)
 
       under : (p : ℕ) → p < PLAYER_LIMIT → slice_index most p ≤ slice_index all p
       under p lt =
           omega (
             arith,
-            up_to_at mesh.seat mesh.machine.gone end mesh.machine.has all p lt,
-            counted_under mesh.seat mesh.machine.gone end all p,
+            up_to_at mesh.seat mesh.machine end all p lt,
+            counted_under mesh.seat mesh.machine.gone (are_full mesh.seat mesh.machine end all) end all p,
             taken_up mesh.seat packet mesh.machine p (omega (arith, lt, sized)),
           )
 
@@ -412,17 +417,17 @@ module _ (step : Step) (s0 s1 : Seen) (mesh : Seated) (packet : Packet) (words :
               ∙ ap (owner_of mesh.seat) is ∙ sym (owners_alike mesh.seat tied.whole.grouped p lt)) ∙ mine)
 
       bounds : (p : ℕ) → p < PLAYER_LIMIT → (slice_index mesh.machine.has p ≤ slice_index reached p)
-          × (slice_index reached p ≤ slice_index all p)
+          × (slice_index reached p ≤ slice_index most p)
       bounds p lt = go (cases_Bool (owner_of mesh.seat p == mesh.seat.me))
         where
           go : ((owner_of mesh.seat p == mesh.seat.me) ≡ true)
               ⊎ ((owner_of mesh.seat p == mesh.seat.me) ≡ false)
               → (slice_index mesh.machine.has p ≤ slice_index reached p)
-              × (slice_index reached p ≤ slice_index all p)
-          go (inl mine) = (omega (arith, own p lt mine), omega (arith, own p lt mine, up p lt, under p lt))
+              × (slice_index reached p ≤ slice_index most p)
+          go (inl mine) = (omega (arith, own p lt mine), omega (arith, own p lt mine, up p lt))
           go (inr isnt) = (
             omega (arith, other p lt isnt),
-            omega (arith, other p lt isnt, (f.given p lt).few, short p lt, up p lt, under p lt),
+            omega (arith, other p lt isnt, (f.given p lt).few, short p lt, up p lt),
           )
 
       alike : AreAlike mesh.seat.words (slice_index reached)
@@ -455,7 +460,8 @@ module _ (step : Step) (s0 s1 : Seen) (mesh : Seated) (packet : Packet) (words :
       has : heard_up_to.machine.has ≡ reached
       has = trimmed_heard mesh reached packet fine (many ∙ sym sized)
           (λ p lt. (bounds p (omega (arith, lt, sized))).0)
-          (λ p lt. (bounds p (omega (arith, lt, sized))).1)
+          (λ p lt. let inside : p < PLAYER_LIMIT = omega (arith, lt, sized) in
+          omega (arith, (bounds p inside).1, under p inside))
 
       before : (p : ℕ) → p < length mesh.machine.has
           → slice_index_or (at_places (words_known (record { session = s0; mesh = mesh }))
@@ -538,7 +544,7 @@ module _ (step : Step) (s0 s1 : Seen) (mesh : Seated) (packet : Packet) (words :
       stays p n lt left =
           let same = taken_left mesh.seat packet mesh.machine p n (omega (arith, lt, sized)) left in
           let b = bounds p lt in
-          omega (arith, b.0, b.1, same)
+          omega (arith, b.0, b.1, under p lt, same)
 
 pub taken_length : (seat : Seat) (packet : Packet) (machine : Machine)
     → length (taken seat packet machine).has ≡ length machine.has

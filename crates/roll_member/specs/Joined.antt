@@ -1,5 +1,5 @@
 -- A session in its seat of a match. Player p of the mesh, counted from 0, is player p + 1 of the session.
-use Rattle.std.specs.Prelude.{◌≡◌, ℕ, zero, suc, ◌+◌, ◌-◌, ◌<◌, ◌≤◌, Bool, true, false, min, not, ◌==◌, ◌&&◌, ◌||◌, nat_lt, List, length, take, is_some, Option, Some, None, if◌then◌else◌, slice_index}
+use Rattle.std.specs.Prelude.{◌≡◌, ℕ, zero, suc, ◌+◌, ◌-◌, ◌<◌, ◌≤◌, Bool, true, false, min, not, ◌==◌, ◌&&◌, ◌||◌, nat_lt, List, length, take, is_none, is_some, Option, Some, None, if◌then◌else◌, slice_index}
 use Rattle.std.specs.Bool.{beq}
 use Rattle.std.specs.List.{list_all, range_with_len}
 use Rattle.roll_frame.specs.Inputs.{of_player}
@@ -7,6 +7,7 @@ use Rattle.roll_mesh.specs.declared.limits.TheConstants.{INPUT_LIMIT, PLAYER_LIM
 use Rattle.roll_mesh.specs.Groups.{are_grouped, first_of, AreAlike, AreToldAlike}
 use Rattle.roll_mesh.specs.Machines.{at_places, is_in, left_at, owner_of}
 use Rattle.roll_mesh.specs.Words.{Holder}
+use Rattle.roll_mesh.specs.declared.machine.Machine.{Machine}
 use Rattle.roll_mesh.specs.declared.seat.Seat.{Seat}
 use Rattle.roll_mesh.specs.Meshes.{is_seat, Seated}
 use Rattle.roll_mesh.specs.Worlds.{first_machine}
@@ -104,6 +105,18 @@ pub record IsJoinedAs (s : Seen) (seat : Seat) (m : Joined) : Type 0 where
   pub mesh : m.mesh
       ≡ record { seat = seat; machine = record first_machine { has = m.mesh.machine.has } }
   pub counts : AreCounts s seat m.mesh.machine.has
+
+-- whether words of the player at a place may come: it is another machine's, and hasn't left
+abbrev pub is_awaited : Seat → Machine → ℕ → Bool
+is_awaited seat machine p =
+    nat_lt (owner_of seat p) seat.machines && not (owner_of seat p == seat.me) && is_none (left_at machine p)
+
+-- the words of one of these are no more than so many: no frame after them can be settled
+pub record IsBehind (m : Joined) (count : ℕ) : Type 0 where
+  pub player : ℕ
+  pub inside : player < PLAYER_LIMIT
+  pub awaited : is_awaited m.mesh.seat m.mesh.machine player ≡ true
+  pub few : count_of m.session player ≤ count
 
 -- the words of a player that a mesh has
 abbrev pub words_known : Joined → ℕ → List ℕ

@@ -5,10 +5,11 @@ use Rattle.roll_mesh.specs.Groups.{first_of}
 use Rattle.roll_mesh.specs.Machines.{left_at, owner_of}
 use Rattle.roll_mesh.specs.Meshes.{Seated}
 use Rattle.roll_mesh.specs.Words.{give_word}
+use Rattle.roll_frame.specs.Core.{settled}
 use Rattle.roll_session.specs.Changes.{after_local, local_refusal}
 use Rattle.roll_session.specs.Seen.{Seen}
 use Rattle.roll_member.specs.Beside.{caught_up}
-use Rattle.roll_member.specs.Joined.{count_of, held, IsTied}
+use Rattle.roll_member.specs.Joined.{count_of, held, IsBehind, IsTied}
 
 -- a word that a session takes of a local player is given once its machine meets the session again: a step of the laws over words.
 -- Of several words each is such a step, since to have caught up twice is to have caught up with the later. Where an input has one word:
@@ -26,3 +27,8 @@ InputsAreWhole = (s : Seen) (mesh : Seated) (p : ℕ) → IsTied s mesh → p < 
     → (owner_of mesh.seat p == mesh.seat.me) ≡ false
     → (count_of s p ≡ count_of s (first_of mesh.seat.words p))
     × (left_at mesh.machine p ≡ left_at mesh.machine (first_of mesh.seat.words p))
+
+-- a session settles no frame past the words of another machine's player who hasn't left
+abbrev pub NothingPastItIsSettled : Type 0
+NothingPastItIsSettled = (s : Seen) (mesh : Seated) (count : ℕ) → IsTied s mesh
+    → IsBehind (record { session = s; mesh = mesh }) count → settled s.core ≤ count

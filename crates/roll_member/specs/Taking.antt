@@ -1,6 +1,6 @@
 -- The words of a packet become remote words of a session.
-use Rattle.std.specs.Prelude.{◌≡◌, ℕ, zero, suc, ◌+◌, ◌-◌, ◌*◌, ◌<◌, ◌≤◌, ◌==◌, ◌||◌, ◌⊎◌, min, nat_le, not, Bool, true, false, List, [], ◌∷◌, ◌++◌, length, drop, map, max, take, Option, None, if◌then◌else◌, slice_index, slice_index_or, IfSome, IfNone}
-use Rattle.std.specs.List.{range_with_len}
+use Rattle.std.specs.Prelude.{◌≡◌, ℕ, zero, suc, ◌+◌, ◌-◌, ◌*◌, ◌<◌, ◌≤◌, ◌==◌, ◌&&◌, ◌||◌, ◌⊎◌, min, nat_le, not, Bool, true, false, List, [], ◌∷◌, ◌++◌, length, drop, map, max, take, Option, None, if◌then◌else◌, slice_index, slice_index_or, IfSome, IfNone}
+use Rattle.std.specs.List.{list_all, range_with_len}
 use Rattle.std.specs.Option.{option_or}
 use Rattle.roll_frame.specs.Core.{settled}
 use Rattle.roll_frame.specs.Events.{CoreEvent}
@@ -11,6 +11,7 @@ use Rattle.roll_frame.specs.declared.refusal.Refusal.{Refusal}
 use Rattle.roll_mesh.specs.Groups.{first_of, AreAlike}
 use Rattle.roll_mesh.specs.Machines.{is_orphan, none_offered}
 use Rattle.roll_mesh.specs.declared.limits.TheConstants.{INPUT_LIMIT, PLAYER_LIMIT}
+use Rattle.roll_mesh.specs.declared.machine.Machine.{Machine}
 use Rattle.roll_mesh.specs.declared.packet.Offer.{Offer}
 use Rattle.roll_mesh.specs.declared.seat.Seat.{Seat}
 use Rattle.roll_session.specs.Answered.{IsPlayed}
@@ -19,6 +20,7 @@ use Rattle.roll_session.specs.Headline.{words_of}
 use Rattle.roll_session.specs.Seen.{plain, Seen, Step}
 use Rattle.roll_wire.specs.Spelling.{count_of}
 use Rattle.roll_wire.specs.declared.limits.TheConstants.{WORD_LIMIT}
+use Rattle.roll_member.specs.Joined.{is_awaited}
 use Rattle.roll_member.specs.declared.words.Took.{Took}
 
 -- remote words of player p, the first of which is that of frame `first`
@@ -135,15 +137,27 @@ pub record Hearing : Type 0 where
   pub has : List ℕ
   pub most : List ℕ
 
--- how many words of player p count, if none of a frame from the end on does, but for a player whose owner is gone
-abbrev pub counted_to : Seat → (gone : List Bool) → (end : ℕ) → (most : List ℕ) → ℕ → ℕ
-counted_to seat gone end most p =
-    if is_orphan seat gone p then slice_index most p else min end (slice_index most p)
+-- whether all words of player p before the end are there, if so many of each player count; none comes of a player who isn't awaited
+abbrev pub is_full : Seat → Machine → (end : ℕ) → (most : List ℕ) → ℕ → Bool
+is_full seat machine end most p = not (is_awaited seat machine p) || nat_le end (slice_index most p)
+
+-- whether no word before the end is waited for
+unfoldable pub are_full : Seat → Machine → (end : ℕ) → (most : List ℕ) → Bool
+are_full seat machine end most =
+    list_all (is_full seat machine end most) (range_with_len 0 PLAYER_LIMIT)
+
+-- how many words of player p count, if none of a frame from the end on does; but of a player whose owner is gone those do, as long as
+-- words before the end are waited for
+abbrev pub counted_to : Seat → (gone : List Bool) → (full : Bool) → (end : ℕ) → (most : List ℕ) → ℕ → ℕ
+counted_to seat gone full end most p =
+    if is_orphan seat gone p && not full then slice_index most p else min end (slice_index most p)
 
 -- how many words of each player may be taken of a packet of which so many count
-unfoldable pub up_to : Seat → (gone : List Bool) → (end : ℕ) → (has most : List ℕ) → List ℕ
-up_to seat gone end has most =
-    map (λ p. max (slice_index has p) (counted_to seat gone end most p)) (range_with_len 0 PLAYER_LIMIT)
+unfoldable pub up_to : Seat → Machine → (end : ℕ) → (most : List ℕ) → List ℕ
+up_to seat machine end most =
+    map (λ p. max (slice_index machine.has p)
+    (counted_to seat machine.gone (are_full seat machine end most) end most p))
+    (range_with_len 0 PLAYER_LIMIT)
 
 -- the new words of the player at a place
 abbrev pub news_at : Hearing → ℕ → List ℕ

@@ -1,5 +1,5 @@
 //! Laws, each the contract of a function that makes no call.
-ghost use Rattle.roll_member.specs.Laws.{InputsAreWhole, OwnWordsAreGiven};
+ghost use Rattle.roll_member.specs.Laws.{InputsAreWhole, NothingPastItIsSettled, OwnWordsAreGiven};
 
 /// A word that a session takes of a local player is one that its machine gives, once it meets the session again.
 pub fn own_words_are_given()
@@ -9,4 +9,9 @@ pub fn own_words_are_given()
 /// Of another machine's player a session that is tied to its mesh has all words of a frame or none, and so it leaves.
 pub fn inputs_are_whole()
     ensures { InputsAreWhole }
+{}
+
+/// What a player of another machine hasn't given yet keeps a session from settling a frame, until that player leaves.
+pub fn nothing_past_it_is_settled()
+    ensures { NothingPastItIsSettled }
 {}

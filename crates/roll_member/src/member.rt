@@ -94,8 +94,9 @@ impl Member {
     }
 
     /// Hears a packet, with its words as the packet offers them: those of player 0, then those of player 1, and so on. Words
-    /// that are to be believed become remote words of the session, in their order, as far as it takes them. Of machines that aren't
-    /// gone none is taken of a frame from `end` on: these are left, as if they hadn't come.
+    /// that are to be believed become remote words of the session, in their order, as far as it takes them. None is taken of a frame from
+    /// `end` on: these are left, as if they hadn't come. But of machines that are gone they are taken, as long as words of frames before
+    /// `end` are waited for.
     ///
     /// # Errors
     ///
@@ -125,7 +126,7 @@ impl Member {
         }
         let seat = *self.mesh.seat();
         let has = *self.mesh.has();
-        let most = up_to(&self.mesh, end, &has, &self.mesh.counts_after(packet));
+        let most = up_to(&self.mesh, end, &self.mesh.counts_after(packet));
         let words = words_heard(seat.words, &packet.offers, words);
         let refusal = take_all(session, &seat, &packet.offers, words, &has, &most);
         let reached = counts(session, &seat);

@@ -1,7 +1,7 @@
 //! Words of a packet become remote words of the session.
 ghost use Rattle.std.specs.Prelude.{◌≡◌, ℕ, ◌+◌, ◌-◌, ◌*◌, ◌≤◌, ◌<◌, length, slice_index, drop, take, true, false};
-ghost use Rattle.roll_member.specs.Joined.{count_of, fewest, known, AreCounts};
-ghost use Rattle.roll_member.specs.Taking.{counted_to, is_first, news, shares, up_to, words_heard, CanTake, HasRoom, Hearing, IsFair, IsLed, IsTaken, Leads, TakesAll, TakesFirst, TakesPlace, TakesWords};
+ghost use Rattle.roll_member.specs.Joined.{count_of, fewest, is_awaited, known, AreCounts};
+ghost use Rattle.roll_member.specs.Taking.{are_full, counted_to, is_first, is_full, news, shares, up_to, words_heard, CanTake, HasRoom, Hearing, IsFair, IsLed, IsTaken, Leads, TakesAll, TakesFirst, TakesPlace, TakesWords};
 ghost use Rattle.roll_mesh.specs.declared.limits.TheConstants.{INPUT_LIMIT, PLAYER_LIMIT};
 ghost use Rattle.roll_session.specs.Changes.{FitsLog};
 ghost use Rattle.roll_session.specs.Headline.{words_of};
@@ -239,30 +239,60 @@ pub(crate) fn words_heard<'a>(
     }
 }
 
-/// How many words of each player may be taken of a packet of which so many count, if none of a frame from the end on is taken, but for
-/// players whose owner is gone: all who stay have to have as many of these before such a player leaves.
+/// How many words of each player may be taken of a packet of which so many count, if none of a frame from the end on is taken. But of
+/// players whose owner is gone they are, as long as words before the end are waited for: all who stay have to have as many of them before
+/// such a player leaves.
 #[tactic(auto, unfolding(crate::specs::Taking::up_to))]
-pub(crate) fn up_to(
-    mesh: &Mesh,
-    end: u32,
-    has: &[u32; PLAYER_LIMIT],
-    most: &[u32; PLAYER_LIMIT],
-) -> [u32; PLAYER_LIMIT]
-    ensures { result ≡ up_to mesh.now.seat mesh.now.machine.gone end has.now most.now }
+pub(crate) fn up_to(mesh: &Mesh, end: u32, most: &[u32; PLAYER_LIMIT]) -> [u32; PLAYER_LIMIT]
+    ensures { result ≡ up_to mesh.now.seat mesh.now.machine end most.now }
 {
+    let full = are_full(mesh, end, most);
+    let has = mesh.has();
     let mut counts = [0; PLAYER_LIMIT];
     for place in 0..PLAYER_LIMIT {
-        counts[place] = counted_to(mesh, end, most, place).max(has[place]);
+        counts[place] = counted_to(mesh, full, end, most, place).max(has[place]);
     }
     counts
 }
 
-/// How many words of the player at a place count, if none of a frame from the end on does, unless its owner is gone.
-fn counted_to(mesh: &Mesh, end: u32, most: &[u32; PLAYER_LIMIT], place: usize) -> u32
-    requires { place < PLAYER_LIMIT }
-    ensures { result ≡ counted_to mesh.now.seat mesh.now.machine.gone end most.now place }
+/// Whether no word before the end is waited for, if so many of each player count.
+#[tactic(auto, unfolding(crate::specs::Taking::are_full))]
+fn are_full(mesh: &Mesh, end: u32, most: &[u32; PLAYER_LIMIT]) -> bool
+    ensures { result ≡ are_full mesh.now.seat mesh.now.machine end most.now }
 {
-    if mesh.is_gone(mesh.seat().owners[place]) {
+    for place in 0..PLAYER_LIMIT {
+        if !is_full(mesh, end, most, place) {
+            return false;
+        }
+    }
+    true
+}
+
+/// Whether no word before the end is waited for of the player at a place.
+fn is_full(mesh: &Mesh, end: u32, most: &[u32; PLAYER_LIMIT], place: usize) -> bool
+    requires { place < PLAYER_LIMIT }
+    ensures { result ≡ is_full mesh.now.seat mesh.now.machine end most.now place }
+{
+    !is_awaited(mesh, place) || end <= most[place]
+}
+
+/// Whether words of the player at a place may come: it is another machine's, and hasn't left.
+fn is_awaited(mesh: &Mesh, place: usize) -> bool
+    requires { place < PLAYER_LIMIT }
+    ensures { result ≡ is_awaited mesh.now.seat mesh.now.machine place }
+{
+    let seat = mesh.seat();
+    let owner = seat.owners[place];
+    owner < seat.machines && owner != seat.me && mesh.left(place as u8).is_none()
+}
+
+/// How many words of the player at a place count, if none of a frame from the end on does, unless its owner is gone and words before the
+/// end are waited for.
+fn counted_to(mesh: &Mesh, full: bool, end: u32, most: &[u32; PLAYER_LIMIT], place: usize) -> u32
+    requires { place < PLAYER_LIMIT }
+    ensures { result ≡ counted_to mesh.now.seat mesh.now.machine.gone full end most.now place }
+{
+    if mesh.is_gone(mesh.seat().owners[place]) && !full {
         most[place]
     } else {
         most[place].min(end)
