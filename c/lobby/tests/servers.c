@@ -15,7 +15,8 @@
 #include <time.h>
 #include <unistd.h>
 
-enum { PATIENCE = 5000 };
+/* Milliseconds: at most, and for threads that are about to begin or to end. */
+enum { PATIENCE = 5000, LAST = 200 };
 
 int __real_getaddrinfo(const char *name, const char *service, const struct addrinfo *hints, struct addrinfo **found);
 int __wrap_getaddrinfo(const char *name, const char *service, const struct addrinfo *hints, struct addrinfo **found);
@@ -261,7 +262,7 @@ int main(void) {
     test_closed();
     test_silent();
     test_ending();
-    for (uint32_t waited = 0; waited < PATIENCE && ended < begun; waited++)
+    for (uint32_t waited = 0; waited < LAST || (waited < PATIENCE && ended < begun); waited++)
         wait_a_little();
     nats_CloseAndWait(PATIENCE);
     return failed != 0;
