@@ -14,7 +14,8 @@ enum { SERVERS = 16, TEXT = 1024, HEARD = 3, KEPT = 256, KEPT_BYTES = 1 << 18 };
 /* Milliseconds. */
 enum { PATIENCE = 2000, AGAIN = 1000, RECONNECT = 200, PING = 2000, FLUSH = 150, LAST = 200 };
 
-/* Of a name with both families libnats takes else any. Lines go by IPv6 where they can: so the end of one family doesn't take both. */
+/* Of a name with both families libnats takes either, if it isn't told which first. Lines go by IPv6 where they can: so the end of one
+ * family doesn't take both. */
 enum { IPV4_FIRST = 46 };
 
 /* A connection that is being made, or closed. */

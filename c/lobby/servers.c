@@ -129,6 +129,14 @@ static uint32_t take_relays(faz_lobby *self) {
     return found;
 }
 
+/* Takes the addresses that were looked up. False: other names have come meanwhile, which are still to be looked up. */
+static bool take_found(servers *self, const servers *found) {
+    if (strcmp(self->stun, found->stun) == 0)
+        self->stun_at = found->stun_at;
+    keep_addresses(self, found);
+    return strcmp(self->stun, found->stun) == 0 && memcmp(self->relay, found->relay, sizeof self->relay) == 0;
+}
+
 /* Servers without an address are left out. */
 static void take_addresses(faz_lobby *self) {
     const servers *of = &self->servers;
@@ -191,10 +199,12 @@ bool lobby_has_addresses(faz_lobby *self) {
     if (self->looking != NULL && !aside_is_over(self->looking))
         return false;
     if (self->looking != NULL) {
-        self->servers = *self->looked_up;
+        bool are_all = take_found(&self->servers, self->looked_up);
         free(self->looked_up);
         aside_take(self->looking);
         self->looking = NULL;
+        if (!are_all)
+            return false;
     }
     self->has_addresses = true;
     take_addresses(self);

@@ -7,6 +7,8 @@
 /* Splits "ADDRESS:PORT", or "[ADDRESS]:PORT" of IPv6, in its place. A port may be missing, and without one the brackets. */
 static bool split(char *text, const char **address, uint16_t *port) {
     char *end = text, *colon = strchr(text, ':');
+    if (colon != NULL && strchr(colon + 1, ':') != NULL)
+        colon = NULL;
     *address = text;
     *port = LOBBY_WORDS_PORT;
     if (*text == '[') {
@@ -17,7 +19,7 @@ static bool split(char *text, const char **address, uint16_t *port) {
         colon = end[1] == ':' ? end + 1 : NULL;
         *end = 0;
     }
-    if (colon == NULL || strchr(colon + 1, ':') != NULL)
+    if (colon == NULL)
         return **address != 0;
     long number = strtol(colon + 1, &end, 10);
     if (colon[1] < '0' || colon[1] > '9' || *end != 0 || number < 1 || number > UINT16_MAX)
