@@ -46,11 +46,11 @@ export class Lobby {
   constructor(how, code) {
     const { broker, name = "", digest, hasDoor = false, servers = null, relayOnly = false, told = () => {} } = how;
     if (globalThis.crypto?.subtle === undefined) throw new Error("a browser seals nothing on this page: it has to come by https");
-    const there = () => this.inTurn(() => this.turn());
+    const there = () => this.takeTurn();
     this.connection = new Connection({ ...addressOf(broker), heard: (it) => this.hear(it), there });
     Object.assign(this, { name: cleanName(name) || "a player", digest: BigInt.asUintN(64, digest) ^ PAGE, relayOnly, told });
     Object.assign(this, { lines: new Map(), table: null, early: [], waiting: 0, lookedAt: 0, heardRoom: null, thereAt: this.now });
-    Object.assign(this, { isHost: code === null, isOver: false, isReady: false, isAway: false, isClosed: false });
+    Object.assign(this, { isHost: code === null, isOver: false, isReady: false, isAway: false, isClosed: false, isTurnDue: false });
     this.inbox = drawn(INBOX);
     this.inboxName = inboxSubject(this.inbox);
     this.connection.hear(this.inboxName);
@@ -60,7 +60,17 @@ export class Lobby {
     this.side = this.isHost ? new Host(this, how) : new Guest(this, code);
     this.work = this.begin();
     this.beat = new Worker(new URL("./beat.js", import.meta.url));
-    this.beat.onmessage = () => this.waiting === 0 && this.inTurn(() => this.turn());
+    this.beat.onmessage = () => this.takeTurn();
+  }
+
+  /** A turn, unless the one before is still to come. What others say doesn't keep it back for longer than what waits already. */
+  takeTurn() {
+    if (this.isTurnDue) return;
+    this.isTurnDue = true;
+    this.inTurn(() => {
+      this.isTurnDue = false;
+      return this.turn();
+    });
   }
 
   async begin() {
