@@ -11,7 +11,7 @@ import { Host } from "./src/hosting.js";
 import { Line } from "./src/line.js";
 import { Lobby } from "./src/lobby.js";
 import { bytesOf, drawn, joined, textBytes } from "./src/bytes.js";
-import { Pair, codeOf, drawHost, drawKeys, readCode, roomOf } from "./src/keys.js";
+import { Pair, codeOf, drawHost, drawKeys, readCode, roomOf, sealForAll } from "./src/keys.js";
 
 const counts = { checks: 0, failed: 0 };
 const NOTHING = new Uint8Array(0);
@@ -174,6 +174,21 @@ async function forgedTables({ lobby, guest, room, speaks, host, code }) {
   await begins("a match with a player of no machine", false, 5, 1, [speaks.open, open], { owners: [0, 2] });
   await begins("a match that is told again", false, 3, 1, [speaks.open, open]);
   await begins("the host's own match", true, 6, 1, [speaks.open, open]);
+}
+
+/** Who has a code can't keep its host busy by long messages: they aren't opened. */
+function longMessages() {
+  const room = roomOf(drawn(16));
+  const opens = (length) => {
+    const body = joined(Uint8Array.of(KINDS.ASK), sealForAll(room, KINDS.ASK, new Uint8Array(length)));
+    try {
+      return openAsk(room, body).rest.length;
+    } catch {
+      return null;
+    }
+  };
+  check("an ask", opens(118), 86);
+  check("a long one", opens(8000), null);
 }
 
 // ---- Who knocks
@@ -364,6 +379,7 @@ async function ways() {
 await forgedNumbers();
 await moreThanDue();
 await forgedOffers();
+longMessages();
 await triesAtOnce();
 await triesUnshown();
 await triesInAMatch();
