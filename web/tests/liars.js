@@ -325,6 +325,14 @@ async function flood() {
   }
   check("turns while others speak without an end", turns, 2);
   check("what waits meanwhile", most <= 66, true);
+  await lobby.work;
+  let taken = 0;
+  Object.assign(lobby, { isReady: true, take: () => taken++ });
+  for (let at = 0; at < 40; at++) {
+    socket.says(...greeting);
+    await lobby.work;
+  }
+  check("what a page takes in a turn of its match", taken, 8);
   lobby.close();
 }
 
