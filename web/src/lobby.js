@@ -50,7 +50,8 @@ export class Lobby {
     const there = () => this.takeTurn();
     this.connection = new Connection({ ...addressOf(broker), heard: (it) => this.hear(it), there });
     Object.assign(this, { name: cleanName(name) || "a player", digest: BigInt.asUintN(64, digest) ^ PAGE, relayOnly, told });
-    Object.assign(this, { lines: new Map(), table: null, early: [], waiting: 0, heard: 0, lookedAt: 0, heardRoom: null, thereAt: this.now });
+    Object.assign(this, { lines: new Map(), table: null, early: [], heardRoom: null, thereAt: this.now });
+    Object.assign(this, { waiting: 0, heard: 0, lookedAt: 0 });
     Object.assign(this, { isHost: code === null, isOver: false, isReady: false, isAway: false, isClosed: false, isTurnDue: false });
     this.inbox = drawn(INBOX);
     this.inboxName = inboxSubject(this.inbox);
