@@ -98,7 +98,7 @@ export class Connection {
     const [kind, ...words] = new TextDecoder().decode(all.subarray(from, end - 1)).split(" ");
     const length = end + 1 - from;
     if (kind === "PING") this.say("PONG\r\n");
-    if (kind === "INFO") this.greet();
+    if (kind === "INFO" && !this.isGreeted) this.greet();
     if (kind === "PONG") this.answered();
     if (kind === "-ERR") this.why = `the broker says: ${words.join(" ")}`;
     if (kind !== "MSG" && kind !== "HMSG") return length;

@@ -343,6 +343,8 @@ function endless() {
   const socket = Socket.last;
   socket.says("INFO {}\r\n", "PONG\r\n", "MSG faz.in.00 1 3\r\nabc\r\n");
   check("a message is heard", heard.length, 1);
+  socket.says("INFO {}\r\n");
+  check("a broker is greeted once", socket.sent.filter((it) => new TextDecoder().decode(it).startsWith("CONNECT ")).length, 1);
   const part = new Uint8Array(1 << 18);
   for (const size of ["999999999", "nonsense"]) {
     const it = Socket.last;
