@@ -151,6 +151,7 @@ addEventListener("pagehide", () => {
 function openMeet() {
   for (const id of ["invitation", "their-answer", "their-invitation", "answer", "their-code"]) at(id).value = "";
   for (const id of ["invited", "accepted", "hosted", "asks"]) show(id, false);
+  asking = [];
   show("meet", true);
 }
 
@@ -197,7 +198,18 @@ for (const id of ["invitation", "answer"]) on(`copy-${id}`, () => navigator.clip
 
 // ---- Meeting by a code.
 
-let asking = null; // who waits for an answer of this player's
+let asking = []; // who wait for an answer of this player's, who is asked of one after another
+
+function showAsking() {
+  at("asking").textContent = asking[0]?.text ?? "";
+  show("asks", asking.length > 0);
+}
+
+function answerFirst(yes) {
+  const { lobby, who } = asking.shift();
+  lobby.letIn(who, yes);
+  showAsking();
+}
 
 /** What a lobby tells, in words; what needs none isn't there. */
 const LOBBY_SAYINGS = {
@@ -219,12 +231,11 @@ function reactToLobby(event, lobby) {
     at("code").textContent = event.text;
     show("hosted", true);
   }
-  const isAsked = event.what === "asks" && event.who !== undefined;
-  if (isAsked) {
-    asking = { lobby, who: event.who };
-    at("asking").textContent = `${event.name} wants to join, and sees ${event.text}.`;
+  if (event.who !== undefined) {
+    asking = asking.filter(({ who }) => who !== event.who);
+    if (event.what === "asks") asking.push({ lobby, who: event.who, text: `${event.name} wants to join, and sees ${event.text}.` });
+    showAsking();
   }
-  if (isAsked || event.who === asking?.who) show("asks", isAsked);
   if (event.what === "ended") {
     lobby.close();
     openMeet();
@@ -266,11 +277,8 @@ function join() {
 
 on("host", host);
 on("join", join);
-on("let-in", () => asking.lobby.letIn(asking.who, true));
-on("say-no", () => {
-  asking.lobby.letIn(asking.who, false);
-  show("asks", false);
-});
+on("let-in", () => answerFirst(true));
+on("say-no", () => answerFirst(false));
 on("copy-code", () => navigator.clipboard.writeText(at("code").textContent));
 
 /** What the address says. */

@@ -4,6 +4,7 @@ import { drawn, hex, joined, textBytes } from "./bytes.js";
 const WAIT = 2000;
 const AGAIN = 500;
 const MOST_UNANSWERED = 3;
+const MOST_READ = 1 << 21; // bytes of one message that hasn't come whole; a broker takes 2^20 if nobody asks for more
 
 /** A connection, which is made anew as often as it breaks. What is said while it isn't there is lost. */
 export class Connection {
@@ -84,6 +85,10 @@ export class Connection {
     let at = 0;
     for (let used = this.line(all, at); used > 0; used = this.line(all, at)) at += used;
     this.read = all.slice(at);
+    if (this.read.length <= MOST_READ) return;
+    this.why = "the broker says too much at once";
+    socket.close();
+    this.renew(socket);
   }
 
   /** Takes a line, and what belongs to it. How many bytes those are; 0 if not all of them have come. */
@@ -93,7 +98,7 @@ export class Connection {
     const [kind, ...words] = new TextDecoder().decode(all.subarray(from, end - 1)).split(" ");
     const length = end + 1 - from;
     if (kind === "PING") this.say("PONG\r\n");
-    if (kind === "INFO") this.greet();
+    if (kind === "INFO" && !this.isGreeted) this.greet();
     if (kind === "PONG") this.answered();
     if (kind === "-ERR") this.why = `the broker says: ${words.join(" ")}`;
     if (kind !== "MSG" && kind !== "HMSG") return length;

@@ -200,13 +200,13 @@ export function seal(key, nonce, bytes, more) {
   return joined(sealed, tagOf(keys.subarray(0, 32), sealed, more));
 }
 
-/** What was sealed; null if nobody with the key has sealed this. */
+/** What was sealed; null if nobody with the key has sealed this. For that one no more is made of the stream than the tag takes. */
 export function open(key, nonce, bytes, more) {
   if (bytes.length < TAG) return null;
   const sealed = bytes.subarray(0, bytes.length - TAG);
-  const keys = streamOf(key, nonce, sealed.length);
-  const isGood = isTag(tagOf(keys.subarray(0, 32), sealed, more), bytes.subarray(sealed.length));
-  return isGood ? xored(sealed, keys.subarray(STREAM)) : null;
+  const front = streamOf(key, nonce, 0);
+  if (!isTag(tagOf(front.subarray(0, 32), sealed, more), bytes.subarray(sealed.length))) return null;
+  return xored(sealed, streamOf(key, nonce, sealed.length).subarray(STREAM));
 }
 
 /** What is in a box that was sealed for an open key; null if it is none. `shared` is what X25519 makes of both keys. */
@@ -215,6 +215,6 @@ export function openBox(shared, theirs, ours, box) {
   const nonce = blake2b(joined(theirs, ours), NONCE);
   const key = hsalsa20(hsalsa20(shared, new Uint8Array(16)), nonce.subarray(0, 16));
   const sealed = box.subarray(TAG);
-  const keys = salsa20(key, nonce.subarray(16), 32 + sealed.length);
-  return isTag(poly1305(keys.subarray(0, 32), sealed), box.subarray(0, TAG)) ? xored(sealed, keys.subarray(32)) : null;
+  if (!isTag(poly1305(salsa20(key, nonce.subarray(16), 32), sealed), box.subarray(0, TAG))) return null;
+  return xored(sealed, salsa20(key, nonce.subarray(16), 32 + sealed.length).subarray(32));
 }

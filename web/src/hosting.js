@@ -53,10 +53,16 @@ export class Host {
     this.lobby.tell("code", { text: writeShort(plate, this.secret) });
   }
 
+  /** Once the match is known there is no code any more after the last try. */
   noteWrong() {
     this.wrong++;
-    if (this.wrong >= WRONG_TRIES && this.lobby.table === null) this.renew();
-    else if (this.wrong >= WRONG_TRIES) this.plate = "";
+    if (this.wrong < WRONG_TRIES) return;
+    if (this.lobby.table === null) {
+      this.renew();
+    } else {
+      this.plate = "";
+      this.lobby.door.asks = Asks.RELAYS; // (by another answer of the door's the plate would be there again)
+    }
   }
 
   async hearKnock(body, inbox) {

@@ -5,6 +5,7 @@ const AGAIN = 500; // milliseconds
 const BLOCKED = 6000;
 const NEVER = 30000;
 const MOST_TEXT = 4500; // bytes, of which a broker takes 8,000 with what seals them
+const MOST_ITEMS = 256; // that the other one may say: a browser has a few dozen ways
 
 /** By which way the channel of a connection goes, in words. */
 async function wayOf(connection) {
@@ -74,10 +75,11 @@ export class Line {
   /** Takes a text of the other's. It throws if that is none. */
   async hear(text) {
     const { first, items, heard } = JSON.parse(text);
+    if (!(first >= 0 && heard >= 0 && Array.isArray(items))) throw new RangeError("it is no text of a line");
     this.heardOfUs = Math.max(this.heardOfUs, Math.min(heard, this.items.length));
     this.owes = this.owes || items.length > 0;
     for (const item of items.slice(Math.max(this.heard - first, 0))) {
-      if (first > this.heard) return;
+      if (first > this.heard || this.heard >= MOST_ITEMS) return;
       this.heard++;
       await this.take(item);
     }

@@ -16,6 +16,7 @@ export { Why };
 const LOOK = 2000; // milliseconds between two looks whether the broker is there
 const PATIENCE = 2000; // until it is said that it is away
 const MOST_WAITING = 64; // messages
+const MOST_IN_MATCH = 8; // of them in a turn, once a match is played: a liar's are opened in vain, and take its time
 const MOST_EARLY = 24;
 
 /** User and password are in a URL, as in those of native programs; a browser takes them apart from it. */
@@ -46,11 +47,12 @@ export class Lobby {
   constructor(how, code) {
     const { broker, name = "", digest, hasDoor = false, servers = null, relayOnly = false, told = () => {} } = how;
     if (globalThis.crypto?.subtle === undefined) throw new Error("a browser seals nothing on this page: it has to come by https");
-    const there = () => this.inTurn(() => this.turn());
+    const there = () => this.takeTurn();
     this.connection = new Connection({ ...addressOf(broker), heard: (it) => this.hear(it), there });
     Object.assign(this, { name: cleanName(name) || "a player", digest: BigInt.asUintN(64, digest) ^ PAGE, relayOnly, told });
-    Object.assign(this, { lines: new Map(), table: null, early: [], waiting: 0, lookedAt: 0, heardRoom: null, thereAt: this.now });
-    Object.assign(this, { isHost: code === null, isOver: false, isReady: false, isAway: false, isClosed: false });
+    Object.assign(this, { lines: new Map(), table: null, early: [], heardRoom: null, thereAt: this.now });
+    Object.assign(this, { waiting: 0, heard: 0, lookedAt: 0 });
+    Object.assign(this, { isHost: code === null, isOver: false, isReady: false, isAway: false, isClosed: false, isTurnDue: false });
     this.inbox = drawn(INBOX);
     this.inboxName = inboxSubject(this.inbox);
     this.connection.hear(this.inboxName);
@@ -60,7 +62,17 @@ export class Lobby {
     this.side = this.isHost ? new Host(this, how) : new Guest(this, code);
     this.work = this.begin();
     this.beat = new Worker(new URL("./beat.js", import.meta.url));
-    this.beat.onmessage = () => this.waiting === 0 && this.inTurn(() => this.turn());
+    this.beat.onmessage = () => this.takeTurn();
+  }
+
+  /** A turn, unless the one before is still to come. What others say doesn't keep it back for longer than what waits already. */
+  takeTurn() {
+    if (this.isTurnDue) return;
+    this.isTurnDue = true;
+    this.inTurn(() => {
+      this.isTurnDue = false;
+      return this.turn();
+    });
   }
 
   async begin() {
@@ -114,8 +126,10 @@ export class Lobby {
     this.connection.publish(subject, reply, body);
   }
 
+  /** What is too much is lost, as any message may be: what matters is said again. */
   hear(message) {
-    if (this.waiting < MOST_WAITING) this.inTurn(() => this.isOver || this.take(message));
+    if (this.waiting >= MOST_WAITING || (this.isReady && ++this.heard > MOST_IN_MATCH)) return;
+    this.inTurn(() => this.isOver || this.take(message));
   }
 
   async take(message) {
@@ -131,6 +145,7 @@ export class Lobby {
 
   async turn() {
     const { now } = this;
+    this.heard = 0;
     if (now - this.lookedAt >= LOOK) {
       this.lookedAt = now;
       this.connection.look();

@@ -12,6 +12,7 @@ const NOBODY = 255; // whose a place is that no player has
 const NAME_ROOM = 32;
 export const MOST_COMMON = 4096;
 const MOST_KNOCK = 2048;
+const MOST_FOR_ALL = 512; // bytes: longer ones are nobody's, and to try each room's key on them would keep a page busy
 const FLAGS = { LASTS: 1, ASKS: 2, LATE: 4 };
 
 const hold = (is) => {
@@ -63,7 +64,7 @@ function forAll(room, kind, text) {
 }
 
 function ofAll(room, kind, body) {
-  const inside = body[0] === kind ? openForAll(room, kind, body.subarray(1)) : null;
+  const inside = body[0] === kind && body.length <= MOST_FOR_ALL ? openForAll(room, kind, body.subarray(1)) : null;
   hold(inside !== null);
   return new Reader(inside);
 }

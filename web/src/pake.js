@@ -7,7 +7,7 @@ import { Reader, Writer, bytesOf, drawn, isSame, joined, numberOf, textBytes } f
 
 // ---- SRP: the group of 2048 bits
 
-const N = BigInt(`0x${[
+export const N = BigInt(`0x${[
   "ac6bdb41324a9a9bf166de5e1389582faf72b6651987ee07fc3192943db56050a37329cbb4a099ed8193e0757767a13dd52312ab4b03310dcd7f48a9da04fd50",
   "e8083969edb767b0cf6095179a163ab3661a05fbd5faaae82918a9962f0b93b855f97993ec975eeaa80d740adbf4ff747359d041d5c33ea71d281e446b14773b",
   "ca97b43a23fb801676bd207a436c6481f1d2b9078717461a5b9d32e688f87748544523b524b0d57d5ea77a2775d2ecfa032cfbdbf52fb3786160279004e57ae6",
@@ -54,13 +54,12 @@ async function hostNumbers(name, secret) {
 
 /** What both know from then on, if they know the same secret. */
 async function hostShared({ verifier, own, said }, theirs) {
-  if (theirs % N === 0n) throw new Wrong();
   return power((theirs * power(verifier, await bothOf(theirs, said))) % N, own);
 }
 
 async function guestShared(name, secret, salt, own, said, theirs) {
   const both = await bothOf(said, theirs);
-  if (theirs % N === 0n || both === 0n) throw new Wrong();
+  hold(both !== 0n);
   const exponent = await secretOf(name, secret, salt);
   const base = (theirs + N * N - ((await factorOf()) * power(G, exponent))) % N;
   return power(base, own + both * exponent);
@@ -176,8 +175,12 @@ export class Pake {
     if (this.state !== "more") return new Uint8Array(0);
     try {
       hold(bytes.length < MOST);
+      const came = recordsOf(bytes);
       const steps = this.isHost ? [this.hostHello, this.hostDone] : [this.hello, this.keys, this.done];
-      return joined(...(await steps[this.step++].call(this, recordsOf(bytes))));
+      const act = steps[this.step++];
+      const isLast = this.step === steps.length;
+      hold((came.change !== null) === isLast && (came.sealed !== null) === isLast);
+      return joined(...(await act.call(this, came)));
     } catch (why) {
       // (WebCrypto and the reader throw what they find wrong)
       this.state = "wrong";
@@ -233,9 +236,11 @@ export class Pake {
   }
 
   async check(side, { change, sealed }) {
-    hold(change !== null && isSame(change, new Uint8Array([1])) && sealed !== null);
+    hold(isSame(change, new Uint8Array([1])));
     const due = await this.proofOf(side);
-    hold(isTag(this.hear(new Reader(await this.theirs.open(sealed)), KINDS.FINISHED).take(PROOF), due));
+    const inside = new Reader(await this.theirs.open(sealed));
+    const proof = this.hear(inside, KINDS.FINISHED);
+    hold(isTag(proof.take(proof.left), due) && inside.left === 0);
   }
 
   // ---- Who joins.
@@ -258,8 +263,9 @@ export class Pake {
     const told = this.hear(plain, KINDS.SERVER_KEYS);
     hold(numberOf(told.take(told.number(2))) === N && numberOf(told.take(told.number(2))) === G);
     const salt = told.take(told.number(1));
-    const theirs = numberOf(told.take(told.number(2)));
+    const theirs = readNumber(told);
     this.hear(plain, KINDS.SERVER_DONE);
+    hold(plain.left === 0);
     const own = numberOf(drawn(EXPONENT));
     const said = power(G, own);
     const keys = this.say(KINDS.CLIENT_KEYS, long(bytesOfNumber(said)));
@@ -268,6 +274,7 @@ export class Pake {
   }
 
   async done(came) {
+    hold(came.plain.left === 0);
     await this.check("server", came);
     this.state = "done";
     return [];
@@ -277,7 +284,7 @@ export class Pake {
 
   async hostHello({ plain }) {
     const hello = this.hear(plain, KINDS.CLIENT_HELLO);
-    hold(hello.number(2) === VERSION);
+    hold(plain.left === 0 && hello.number(2) === VERSION);
     this.theirRandom = hello.take(32);
     hello.take(hello.number(1));
     const suites = new Reader(hello.take(hello.number(2)));
@@ -297,7 +304,8 @@ export class Pake {
 
   async hostDone(came) {
     const told = this.hear(came.plain, KINDS.CLIENT_KEYS);
-    await this.derive(await hostShared(this.numbers, numberOf(told.take(told.number(2)))));
+    hold(came.plain.left === 0);
+    await this.derive(await hostShared(this.numbers, readNumber(told)));
     await this.check("client", came);
     const said = await this.prove("server");
     this.state = "done";
@@ -305,7 +313,14 @@ export class Pake {
   }
 }
 
-/** What is in records: messages, and after a change of keys what is sealed. */
+/** A number that the other one says: one of the group's, and not 0, with which who doesn't know the secret would know the key. */
+function readNumber(from) {
+  const found = numberOf(from.take(from.number(2)));
+  hold(found > 0n && found < N);
+  return found;
+}
+
+/** What is in records: messages, and after a change of keys what is sealed, in one record. */
 function recordsOf(bytes) {
   const from = new Reader(bytes);
   const found = { plain: [], change: null, sealed: null };
@@ -313,7 +328,7 @@ function recordsOf(bytes) {
     const kind = from.number(1);
     from.number(2);
     const body = from.take(from.number(2));
-    hold(kind === RECORDS.CHANGE || kind === RECORDS.HANDSHAKE);
+    hold(kind === RECORDS.CHANGE ? found.change === null : kind === RECORDS.HANDSHAKE && found.sealed === null);
     if (kind === RECORDS.CHANGE) found.change = body;
     else if (found.change === null) found.plain.push(body);
     else found.sealed = body;

@@ -426,6 +426,28 @@ def by_address(server, served, kind):
         check(f"what the page's address says in {kind}", True)
 
 
+def two_ask(server, served, kind):
+    """Two friends ask the page's player at once, who is asked of one after the other."""
+    asked = "return document.getElementById('asking').textContent"
+    with driver(kind) as one:
+        one.go(f"{server.url}/site/index.html?bot=5&broker={served.url}&host&name=Anna")
+        one.wait("return document.getElementById('code')?.textContent.length === 8")
+        code = one.run("return document.getElementById('code').textContent")
+        with pages((kind, url_of(server, served, "asks-first", join=code, player="Ben"))):
+            one.wait_until_told("Ben wants to join", 20)
+            with pages((kind, url_of(server, served, "asks-second", join=code, player="Cal"))):
+                one.wait_until_told("Cal wants to join", 20)
+                check(f"who asks first in {kind}", one.run(asked).startswith("Ben wants to join, and sees "), one.run(asked))
+                one.click("say-no")
+                found = result(server, "asks-first", WAIT)
+                check(f"who asked first isn't let in in {kind}", ended(found, "the host's player said no"), str(found))
+                check(f"who asks second in {kind}", one.run(asked).startswith("Cal wants to join, and sees "), one.run(asked))
+                one.click("let-in")
+                one.wait("return !document.getElementById('match').hidden")
+                check(f"nobody asks any more in {kind}", one.run("return document.getElementById('asks').hidden"))
+    server.post.clear("asks-first", "asks-second")
+
+
 # ---- all of them
 
 def one_code(server, kind, port):
@@ -462,6 +484,7 @@ def by_codes(server, kinds, port):
                  lambda served: with_native(server, served, kinds, port + 8),
                  lambda served: [whole_page(server, served, it) for it in both],
                  lambda served: [by_address(server, served, it) for it in kinds],
+                 lambda served: [two_ask(server, served, it) for it in kinds],
                  lambda served: [no_way(server, served, kind) for kind in kinds],
                  lambda served: [rights(server, served, kind) for kind in kinds]]:
         with serving(port) as served:  # (the door counts who asks: each part has a door of its own)

@@ -105,8 +105,11 @@ def seals_agree(room):
         skip(f"what lobbies of pages seal ({why})")
         return
     shutil.copytree(WEB / "src", room / "src")
-    shutil.copy(WEB / "tests/seals.js", room)
+    for name in ["seals.js", "liars.js"]:
+        shutil.copy(WEB / "tests" / name, room)
     (room / "package.json").write_text('{"type": "module"}')
     (room / "cases").write_text(json.dumps(cases(sodium)))
     said = run(["node", "--no-warnings", room / "seals.js", room / "cases", *native_side(room)])
     check("what is sealed, and codes", said.returncode == 0 and " checks, 0 failed" in said.stdout, said.stdout[-3000:])
+    said = run(["node", "--no-warnings", room / "liars.js"])
+    check("what liars can make a lobby do", said.returncode == 0 and " checks, 0 failed" in said.stdout, said.stdout[-3000:])

@@ -1,0 +1,400 @@
+// What liars can make a lobby of pages do, who speak at its broker, knock at its door or are its broker: node liars.js. Each line that it
+// writes is a check that failed, and the last one says how many there were.
+import { N, Pake } from "./src/pake.js";
+import {
+  Asks, DOOR, KINDS, Says, inboxSubject, openAsk, readAsk, readKnock, writeAnswer, writeHello, writeKnock, writeOffer,
+} from "./src/messages.js";
+import { Connection } from "./src/broker.js";
+import { Door } from "./src/door.js";
+import { Guest } from "./src/joining.js";
+import { Host } from "./src/hosting.js";
+import { Line } from "./src/line.js";
+import { Lobby } from "./src/lobby.js";
+import { bytesOf, drawn, joined, textBytes } from "./src/bytes.js";
+import { Pair, codeOf, drawHost, drawKeys, readCode, roomOf, sealForAll } from "./src/keys.js";
+
+const counts = { checks: 0, failed: 0 };
+const NOTHING = new Uint8Array(0);
+const PLATE = "KXQ";
+const SECRET = "4H7P";
+
+function check(what, found, due) {
+  counts.checks++;
+  if (found === due) return;
+  counts.failed++;
+  console.log(`${what}: ${found}, not ${due}`);
+}
+
+const long = (bytes) => joined(bytesOf(BigInt(bytes.length), 2), bytes);
+const digitsOf = (number) => bytesOf(number, Math.ceil(number.toString(16).length / 2));
+
+// ---- Numbers with which who doesn't know the secret would know the key
+
+const CLIENT_KEYS = 16;
+const SERVER_KEYS = 12;
+const FORGED = [["0", 0n], ["N", N], ["2 N", 2n * N], ["N + 1", N + 1n]];
+
+/** A guest that says such a number, and goes on with the key that it would make. */
+class LyingGuest extends Pake {
+  constructor(number) {
+    super(false, PLATE, "0000");
+    this.number = number;
+  }
+
+  say(kind, body) {
+    return super.say(kind, kind === CLIENT_KEYS ? long(digitsOf(this.number)) : body);
+  }
+
+  derive() {
+    return super.derive(this.number % N);
+  }
+}
+
+class LyingHost extends Pake {
+  constructor(number) {
+    super(true, PLATE, "0000");
+    this.number = number;
+  }
+
+  say(kind, body) {
+    const front = body.subarray(0, 2 + 256 + 2 + 1 + 1 + 16); // the group, and a salt
+    return super.say(kind, kind === SERVER_KEYS ? joined(front, long(digitsOf(this.number))) : body);
+  }
+}
+
+async function forgedNumbers() {
+  for (const [what, number] of FORGED) {
+    const [host, liar] = [new Pake(true, PLATE, SECRET), new LyingGuest(number)];
+    await host.turn(await liar.turn(await host.turn(await liar.turn(NOTHING))));
+    check(`a guest who says ${what}`, host.state, "wrong");
+    const [guest, other] = [new Pake(false, PLATE, SECRET), new LyingHost(number)];
+    const said = await guest.turn(await other.turn(await guest.turn(NOTHING)));
+    check(`a host who says ${what}`, `${guest.state}, ${said.length} bytes`, "wrong, 0 bytes");
+  }
+}
+
+// ---- What is more than has to be said
+
+/** It knows the secret, and proves it by a proof with a byte behind it. */
+class LongProof extends Pake {
+  async proofOf(side) {
+    const proof = await super.proofOf(side);
+    return this.isHost === (side === "server") ? joined(proof, Uint8Array.of(0)) : proof;
+  }
+}
+
+/** It knows the secret, and one of its messages has a record behind it. */
+class MoreRecords extends Pake {
+  constructor(isHost, name, secret, at, record) {
+    super(isHost, name, secret);
+    Object.assign(this, { at, record });
+  }
+
+  async turn(bytes) {
+    const isIt = this.step === this.at;
+    const said = await super.turn(bytes);
+    return isIt ? joined(said, Uint8Array.from(this.record)) : said;
+  }
+}
+
+/** How a guest and a host end: each one says what the other has said before. */
+async function ended(guest, host) {
+  let said = NOTHING;
+  for (let step = 0; step < 5; step++) said = await (step % 2 === 0 ? guest : host).turn(said);
+  return `${guest.state} ${host.state}`;
+}
+
+async function moreThanDue() {
+  check("two who know it", await ended(new Pake(false, PLATE, SECRET), new Pake(true, PLATE, SECRET)), "done done");
+  check("a guest's long proof", await ended(new LongProof(false, PLATE, SECRET), new Pake(true, PLATE, SECRET)), "wrong wrong");
+  check("a host's long proof", await ended(new Pake(false, PLATE, SECRET), new LongProof(true, PLATE, SECRET)), "wrong done");
+  for (const [what, record] of [["a message", [22, 3, 3, 0, 4, 0, 0, 0, 0]], ["a change of keys", [20, 3, 3, 0, 1, 1]]])
+    for (let at = 0; at < 2; at++) {
+      const guest = await ended(new MoreRecords(false, PLATE, SECRET, at, record), new Pake(true, PLATE, SECRET));
+      check(`${what} behind a guest's message ${at}`, guest, "wrong wrong");
+      const [own, other] = [new Pake(false, PLATE, SECRET), new MoreRecords(true, PLATE, SECRET, at, record)];
+      await ended(own, other);
+      check(`${what} behind a host's message ${at}`, own.state, "wrong");
+    }
+}
+
+/** What a side needs of a lobby. `said` is what it has said. */
+async function lobbyOf() {
+  const lobby = { now: 0, isThere: true, isReady: false, table: null, name: "Anna", digest: 0n, said: [], told: [] };
+  lobby.say = (subject, body) => lobby.said.push({ subject, body });
+  lobby.tell = (what, more) => lobby.told.push({ what, ...more });
+  lobby.begins = (table) => Object.assign(lobby, { table });
+  lobby.hearRoom = () => {};
+  lobby.connection = { hear() {} };
+  return Object.assign(lobby, { keys: await drawKeys(), inbox: drawn(16), door: new Door(lobby, false) });
+}
+
+// ---- Who answers in the place of a host
+
+/** Who has a long code, but isn't its host, can be nobody's host: neither by a host's own key nor by that of another. */
+async function forgedOffers() {
+  const lobby = await lobbyOf();
+  const [host, other, speaks] = [await drawHost(), await drawHost(), await drawKeys()];
+  const code = codeOf(host.host);
+  const room = roomOf(code);
+  const guest = new Guest(lobby, { code });
+  await guest.begin();
+  const says = async (it, by, vouched) => {
+    const body = writeOffer(room, { host: it.host, speaks: speaks.open, proof: await by.vouch(vouched), inbox: drawn(16) });
+    await guest.hear(KINDS.OFFER, { body });
+    return lobby.said.length;
+  };
+  check("an offer by another host", await says(other, other, speaks.open), 0);
+  check("an offer that another vouches for", await says(host, other, speaks.open), 0);
+  check("an offer for another key", await says(host, host, lobby.keys.open), 0);
+  check("the host's own", await says(host, host, speaks.open), 1);
+  await forgedTables({ lobby, guest, room, speaks, host, code });
+}
+
+/** And the host may tell a guest of no match but one in which both are. */
+async function forgedTables({ lobby, guest, room, speaks, host, code }) {
+  const { open, rest } = openAsk(room, lobby.said[0].body);
+  const pair = await Pair.of(room, speaks, open);
+  check("who asks", readAsk(pair, rest).name, "Anna");
+  const stranger = (await drawKeys()).open;
+  const answers = (counter, me, opens, more = {}) => {
+    const members = opens.map((it) => ({ open: it, inbox: drawn(16), name: "it" }));
+    const table = { me, players: 2, owners: [0, 1], number: 7n, key: drawn(32), code, host: host.host, members, common: NOTHING, ...more };
+    table.proof = drawn(64);
+    return guest.hear(KINDS.ANSWER, { body: writeAnswer(pair, { counter, says: Says.BEGINS, name: "Ben", table }) });
+  };
+  const begins = async (what, due, ...of) => {
+    await answers(...of).catch(() => {});
+    check(what, lobby.table !== null, due);
+  };
+  await begins("a match of another host", false, 1, 1, [stranger, open]);
+  await begins("a match of another guest", false, 2, 1, [speaks.open, stranger]);
+  await begins("a match in which a guest is its host", false, 3, 0, [open, speaks.open]);
+  await begins("a match in a place that isn't there", false, 4, 2, [speaks.open, open]);
+  await begins("a match with a player of no machine", false, 5, 1, [speaks.open, open], { owners: [0, 2] });
+  await begins("a match that is told again", false, 3, 1, [speaks.open, open]);
+  await begins("the host's own match", true, 6, 1, [speaks.open, open]);
+}
+
+/** Who has a code can't keep its host busy by long messages: they aren't opened. */
+function longMessages() {
+  const room = roomOf(drawn(16));
+  const opens = (length) => {
+    const body = joined(Uint8Array.of(KINDS.ASK), sealForAll(room, KINDS.ASK, new Uint8Array(length)));
+    try {
+      return openAsk(room, body).rest.length;
+    } catch {
+      return null;
+    }
+  };
+  check("an ask", opens(118), 86);
+  check("a long one", opens(8000), null);
+}
+
+// ---- Who knocks
+
+/** A lobby that hosts by a short code. */
+async function hosting() {
+  const lobby = await lobbyOf();
+  await lobby.door.begin();
+  lobby.side = new Host(lobby, { isShort: true });
+  await lobby.side.begin();
+  lobby.side.hearPlate(PLATE);
+  return lobby;
+}
+
+/** Says one step of a proof to a host: what it answers; null if it says nothing. */
+async function knocks(lobby, guest, bytes) {
+  const reply = inboxSubject(guest.inbox);
+  const said = lobby.said.length;
+  await lobby.side.turn(lobby.now);
+  await lobby.side.hear(KINDS.KNOCK, { reply, body: writeKnock(KINDS.KNOCK, { id: guest.inbox, step: ++guest.knocks, bytes }) });
+  return lobby.said.length > said ? readKnock(lobby.said.at(-1).body) : null;
+}
+
+const stranger = (secret) => Object.assign(new Pake(false, PLATE, secret), { inbox: drawn(16), knocks: 0 });
+const otherThan = (secret) => (secret === "0000" ? "0001" : "0000");
+
+/** However many try at once, five tries are all. */
+async function triesAtOnce() {
+  const lobby = await hosting();
+  const guests = Array.from({ length: 12 }, () => stranger(otherThan(lobby.side.secret)));
+  const came = [];
+  for (const it of guests) came.push(await knocks(lobby, it, await it.turn(NOTHING)));
+  check("who knocks at once", came.filter((it) => it !== null).length, 8);
+  let wrong = 0;
+  const before = lobby.side.secret;
+  for (const [at, it] of guests.entries()) {
+    const answer = came[at] === null ? null : await knocks(lobby, it, await it.turn(came[at].bytes));
+    if (answer?.isWrong) wrong++;
+  }
+  check("tries of those at once", wrong, 5);
+  check("then there is another secret", before !== lobby.side.secret && lobby.side.plate === "", true);
+}
+
+/** Who says nothing more has had a try too. */
+async function triesUnshown() {
+  const lobby = await hosting();
+  for (let at = 0; at < 5; at++) {
+    const it = stranger(SECRET);
+    await knocks(lobby, it, await it.turn(NOTHING));
+  }
+  check("there are tries left", lobby.side.plate, PLATE);
+  lobby.now += 5000;
+  await lobby.side.turn(lobby.now);
+  check("five who show nothing", lobby.side.plate, "");
+}
+
+/** Once the match is known, the last try leaves no code, also after the door's next answer. */
+async function triesInAMatch() {
+  const lobby = await hosting();
+  lobby.table = {};
+  for (let at = 0; at < 5; at++) {
+    const it = stranger(otherThan(lobby.side.secret));
+    const first = await knocks(lobby, it, await it.turn(NOTHING));
+    await knocks(lobby, it, await it.turn(first.bytes));
+  }
+  check("no code after five tries in a match", lobby.side.plate, "");
+  lobby.door.answeredAt = lobby.now;
+  const said = lobby.said.length;
+  lobby.now += 60000;
+  lobby.door.turn(lobby.now);
+  const asked = lobby.said.slice(said).filter(({ subject, body }) => subject === DOOR && body[1] === Asks.HOSTS);
+  check("no plate is asked for any more", asked.length, 0);
+}
+
+// ---- Who speaks at the broker without an end, and a broker that does
+
+class Socket {
+  static OPEN = 1;
+  readyState = 1;
+
+  constructor() {
+    Socket.last = this;
+    this.sent = [];
+  }
+
+  send(bytes) {
+    this.sent.push(bytes);
+  }
+
+  close() {
+    this.readyState = 3;
+  }
+
+  says(...parts) {
+    this.onmessage({ data: joined(...parts.map((it) => (typeof it === "string" ? textBytes(it) : it))).buffer });
+  }
+}
+
+class Beat {
+  constructor() {
+    Beat.last = this;
+  }
+
+  terminate() {}
+}
+
+globalThis.WebSocket = Socket;
+globalThis.Worker = Beat;
+globalThis.reportError ??= (why) => console.log(why);
+
+/** A host is told so many greetings that one always waits. */
+async function flood() {
+  const events = [];
+  const lobby = Lobby.host({ broker: "ws://127.0.0.1:1", digest: 1n, told: (it) => events.push(it) });
+  const socket = Socket.last;
+  socket.says("INFO {}\r\n", "PONG\r\n");
+  await lobby.work;
+  const room = roomOf(readCode(events.find((it) => it.what === "code").text).code);
+  const hello = writeHello(room, drawn(32));
+  const greeting = [`MSG faz.meet.${room.name} 1 ${inboxSubject(drawn(16))} ${hello.length}\r\n`, hello, "\r\n"];
+  let turns = 0;
+  const { turn } = lobby.side;
+  lobby.side.turn = (now) => {
+    turns++;
+    return turn.call(lobby.side, now);
+  };
+  let most = 0;
+  for (let at = 0; at < 1000 && turns < 2; at++) {
+    for (let times = 0; times < 100; times++) socket.says(...greeting);
+    most = Math.max(most, lobby.waiting);
+    Beat.last.onmessage();
+    Beat.last.onmessage();
+    await new Promise((resolve) => setTimeout(resolve, 5));
+  }
+  check("turns while others speak without an end", turns, 2);
+  check("what waits meanwhile", most <= 66, true);
+  await lobby.work;
+  let taken = 0;
+  Object.assign(lobby, { isReady: true, take: () => taken++ });
+  for (let at = 0; at < 40; at++) {
+    socket.says(...greeting);
+    await lobby.work;
+  }
+  check("what a page takes in a turn of its match", taken, 8);
+  lobby.close();
+}
+
+/** A message that never ends isn't kept for ever, and its connection is made anew. */
+function endless() {
+  const heard = [];
+  const connection = new Connection({ url: "ws://127.0.0.1:1", heard: (it) => heard.push(it) });
+  const socket = Socket.last;
+  socket.says("INFO {}\r\n", "PONG\r\n", "MSG faz.in.00 1 3\r\nabc\r\n");
+  check("a message is heard", heard.length, 1);
+  socket.says("INFO {}\r\n");
+  check("a broker is greeted once", socket.sent.filter((it) => new TextDecoder().decode(it).startsWith("CONNECT ")).length, 1);
+  const part = new Uint8Array(1 << 18);
+  for (const size of ["999999999", "nonsense"]) {
+    const it = Socket.last;
+    it.says(`MSG faz.in.00 1 ${size}\r\n`);
+    for (let at = 0; at < 12; at++) if (it.readyState === Socket.OPEN) it.says(part);
+    check(`a message of ${size} bytes`, it.readyState !== Socket.OPEN && connection.why !== null, true);
+    connection.connect();
+  }
+  connection.close();
+}
+
+// ---- Who plays along
+
+class PeerConnection {
+  addIceCandidate() {
+    PeerConnection.count++;
+    return Promise.resolve();
+  }
+
+  close() {}
+}
+globalThis.RTCPeerConnection = PeerConnection;
+
+async function ways() {
+  const said = [];
+  PeerConnection.count = 0;
+  const line = new Line({ isFirst: false, servers: [], relayOnly: false, say: (it) => said.push(it), told() {}, now: 0 });
+  line.put({ end: true });
+  for (const [first, items, heard] of [[0, [], "all"], [0, 7, 0], [null, [], {}], [-1, [], 0]]) {
+    const text = JSON.stringify({ first, items, heard });
+    check(`a text of a liar's: ${text}`, await line.hear(text).then(() => "taken", () => "refused"), "refused");
+  }
+  said.length = 0;
+  line.turn(1000);
+  check("what wasn't heard is said again", said.length, 1);
+  for (let first = 0; first < 10000; first += 100)
+    await line.hear(JSON.stringify({ first, items: Array(100).fill({ candidate: {} }), heard: 0 }));
+  check("ways that one may name", PeerConnection.count, 256);
+  line.close();
+}
+
+await forgedNumbers();
+await moreThanDue();
+await forgedOffers();
+longMessages();
+await triesAtOnce();
+await triesUnshown();
+await triesInAMatch();
+await flood();
+endless();
+await ways();
+console.log(`${counts.checks} checks, ${counts.failed} failed`);
+process.exit(counts.failed > 0 ? 1 : 0);
