@@ -1,4 +1,3 @@
-/* The header that is to be released first, as 0.1. Nothing is released yet, so until then it is made anew from ../fazgrond.h. */
 /* fazgrond.h: rollback sessions for games in C, C++, Rust and any language that can call C.
  *
  * The library never calls the game. A call that may roll back (fazgrond_synchronize_input, fazgrond_advance_frame) or that makes
@@ -23,11 +22,11 @@ extern "C" {
 #endif
 
 /* The version of this header: major << 16 | minor << 8 | patch. docs/VERSIONS.md says what raises which of them. */
-#define FAZGROND_VERSION 0x000100
+#define FAZGROND_VERSION 0x000101
 
 /* The version of the library that the program runs with. While the major number is 0, a library fits a header with the same major
- * and minor number. If a library knows another size of fazgrond_settings or fazgrond_match than the header, it opens nothing and
- * answers FAZGROND_OTHER_VERSION. */
+ * and minor number. If a library knows another size of fazgrond_settings, fazgrond_match or fazgrond_epoch than the header, it opens
+ * nothing and answers FAZGROND_OTHER_VERSION. */
 uint32_t fazgrond_version(void);
 
 /* What an answer or the code of an event means, in an English sentence for a log: as much of it as `out` has room for, without a
@@ -186,8 +185,10 @@ enum {
     FAZGROND_NOT_NOW = 317,                 /* the pieces of another machine alone are taken for now */
     FAZGROND_PAST_THE_END = 318,            /* the state has no such piece */
     FAZGROND_WRONG_LENGTH = 319,            /* the piece has fewer or more bytes than the state's piece there has */
-    FAZGROND_TOO_LONG = 320                 /* the state has more bytes than the limit that the taker was given, or 2^32 or more
+    FAZGROND_TOO_LONG = 320,                /* the state has more bytes than the limit that the taker was given, or 2^32 or more
                                              * */
+    FAZGROND_NO_MARKS = 321,                /* the match doesn't go on in epochs, so that no word has a mark */
+    FAZGROND_MARKED = 322                   /* the player has a mark in this epoch already */
 };
 
 /* Opens a session. Before the first request the game has its opening state as the current one and in slot 0. If the handle is
@@ -303,7 +304,8 @@ int32_t fazgrond_claim(fazgrond_session *session, uint8_t *out, size_t room, siz
  *   fazgrond_peer_is_running: until it says 1, give no words, and skip the next two lines;
  *   fazgrond_add_local_input for each player of this machine; if all are accepted, fazgrond_advance_frame, and else, if
  *   fazgrond_has_news says 1, fazgrond_synchronize_input. Then carry out the requests;
- *   fazgrond_peer_event until there is none, and fazgrond_peer_send for each other machine.
+ *   fazgrond_peer_event until there is none, and fazgrond_peer_send for each other machine. If the peer carries, then
+ *   fazgrond_peer_send_more until there is nothing.
  *
  * Always give a peer the session that it was opened with. The peer alone tells that session of the other machines: a program that
  * calls fazgrond_remote_input or fazgrond_disconnect_player itself ends the match for this machine, since from then on each call
@@ -346,8 +348,9 @@ typedef struct fazgrond_match {
     uint32_t me;                         /* which machine this is */
     uint32_t machines;                   /* how many there are, 2 to 8 */
     uint32_t owners[FAZGROND_PLAYERS];   /* the machine of each player, player 1 first; FAZGROND_NO_PLAYER if there is none */
-    uint32_t silent_after;               /* milliseconds after which a machine is gone that answers nothing. 0: it never is, so
-                                          * the match waits for it until you disconnect it, and FAZGROND_MISSING isn't told */
+    uint32_t silent_after;               /* milliseconds after which a machine is gone that answers nothing, unless
+                                          * FAZGROND_CUT_OFF is told. 0: it never is, so the match waits for it until you
+                                          * disconnect it, and FAZGROND_MISSING isn't told */
     uint32_t notify_after;               /* milliseconds after which FAZGROND_INTERRUPTED tells of a machine of which nothing
                                           * comes, and FAZGROND_STALLED of one that holds this one up; 0: neither is told */
     uint32_t stalled_after;              /* milliseconds after which a machine is gone that answers, and holds this one up since
@@ -396,7 +399,8 @@ static inline void fazgrond_one_number(fazgrond_match *match, uint64_t number) {
  * heard again.
  * LEFT: `machine` is gone for good. DESYNC: it has another state at the settled frame `frame`.
  * MISMATCH: `machine` means another match: `field` is 1 if it has another number of machines, 2 if other owners, 3 if another
- * digest, 4 if inputs of another number of words. It may come in the middle of a match too. DROPPED: another machine regards this one as gone.
+ * digest, 4 if inputs of another number of words. It may come in the middle of a match too.
+ * DROPPED: the match is over here. Another machine regards this one as gone, or this one was cut off for too long.
  * RESTARTED: `machine` was opened anew. It can't come back into this match: its old opening is silent from now on, and gone by
  * that, and its new one waits until you open a match anew too. Told once for each opening.
  * STALLED: `machine` is heard, and holds this one up, since it gives no words. If it is to be gone for that, it is in
@@ -404,12 +408,14 @@ static inline void fazgrond_one_number(fazgrond_match *match, uint64_t number) {
  * REFUSED: what `machine` sealed was refused, or a word of it was: its program is broken, or it lies. Told at the first of a run.
  * MISSING: `silent_after` has passed since this peer was opened, and `machine` isn't there yet. Told once. It is waited for, until
  * you disconnect it.
+ * CUT_OFF: of three machines or more this one hears too few, and so regards none of them as gone. The match is over here in
+ * `disconnect_in` milliseconds, as DROPPED tells then, unless it hears more of them again. Told whenever that begins.
  * c/numbers writes the list. */
 enum {
     FAZGROND_SYNCHRONIZING = 1001, FAZGROND_SYNCHRONIZED = 1002, FAZGROND_RUNNING = 1003, FAZGROND_DISCONNECTED = 1004,
     FAZGROND_TIME_SYNC = 1005, FAZGROND_INTERRUPTED = 1006, FAZGROND_RESUMED = 1007, FAZGROND_LEFT = 1101, FAZGROND_DESYNC = 1102,
     FAZGROND_MISMATCH = 1103, FAZGROND_DROPPED = 1104, FAZGROND_RESTARTED = 1105, FAZGROND_STALLED = 1106,
-    FAZGROND_REFUSED = 1107, FAZGROND_MISSING = 1108
+    FAZGROND_REFUSED = 1107, FAZGROND_MISSING = 1108, FAZGROND_CUT_OFF = 1109
 };
 
 /* What an event doesn't say is 0. */
@@ -432,7 +438,7 @@ typedef struct fazgrond_stats {
     uint32_t sent;
     uint32_t received;
     uint32_t lost;               /* or late */
-    uint32_t words_queued;       /* words that it hasn't said that it has, at most 160 of each player; 0 if nothing is sent to it */
+    uint32_t words_queued;       /* words that it hasn't said that it has, at most 140 of each player; 0 if nothing is sent to it */
     int32_t frames_behind;       /* by how many frames this machine is behind the other: negative if it is ahead */
     int32_t their_frames_behind; /* and the other, as it says, behind this one */
     uint32_t refused;            /* how many datagrams that it sealed were refused, or had words that were */
@@ -449,6 +455,12 @@ typedef struct fazgrond_stats {
  * FAZGROND_INVALID_REQUEST: the draw is 0; or `me`, `machines` or an owner is over 255, or `held_turns` over 8; or the session has
  * words of another machine's player already, or a player has left it. */
 int32_t fazgrond_peer_open(fazgrond_peer *peer, fazgrond_session *session, const fazgrond_match *match);
+
+/* The same of a peer that carries, for a match of three machines or more: where the line between two of them breaks, a third one that
+ * both hear hands their datagrams on, so nobody is gone for it. Call fazgrond_peer_send_more after fazgrond_peer_send, in each turn;
+ * the latter is FAZGROND_NOTHING too if what it has for a machine is carried, or goes with what is. A machine carries with those
+ * that were opened so too. With two machines it is fazgrond_peer_open. */
+int32_t fazgrond_peer_open_carrying(fazgrond_peer *peer, fazgrond_session *session, const fazgrond_match *match);
 
 /* Closes it. Nothing happens if it is closed. The session stays open. */
 static inline void fazgrond_peer_close(fazgrond_peer *peer) {
@@ -475,7 +487,13 @@ int32_t fazgrond_peer_is_running(fazgrond_peer *peer, uint32_t *flag);
 int32_t fazgrond_peer_send(fazgrond_peer *peer, fazgrond_session *session, uint8_t machine, uint32_t now, uint8_t *out,
                            size_t room, size_t *length);
 
-/* The datagram that says to a machine that this one leaves the match: another one for each machine. Send each a few times.
+/* Once fazgrond_peer_send was called for each other machine, what a peer that carries has to send besides in this turn: a datagram, and
+ * to which machine it goes. It says who hears whom, or holds what machines send each other over this one. Call it until it is
+ * FAZGROND_NOTHING: of a peer that was opened by fazgrond_peer_open it always is. The room, as for fazgrond_peer_send. */
+int32_t fazgrond_peer_send_more(fazgrond_peer *peer, uint8_t *machine, uint8_t *out, size_t room, size_t *length);
+
+/* The datagram that says to a machine that this one leaves the match: another one for each machine. Send each a few times. A peer that
+ * carries has it carried too, if the line is broken: so call fazgrond_peer_send_more after it.
  * FAZGROND_NOTHING: the machine is gone, or this one, or none, or it and this one haven't heard each other. */
 int32_t fazgrond_peer_bye(fazgrond_peer *peer, uint8_t machine, uint8_t *out, size_t room, size_t *length);
 
@@ -535,6 +553,158 @@ int32_t fazgrond_peer_hand_over_due(fazgrond_peer *peer, fazgrond_session *sessi
  * frame, it would answer FAZGROND_PREDICTION_THRESHOLD to a local word, unless it is given more; else 0. */
 int32_t fazgrond_peer_is_pressed(fazgrond_peer *peer, fazgrond_session *session, uint32_t *flag);
 
+/* ---- Epochs: a match that goes on with other machines, owners or delays. It is played in parts, its epochs. In each of them the
+ * machines, the owners of the players, their input delays and the threshold stay the same. The frames of each begin at 0, so such a
+ * match doesn't end at frame 1048576.
+ *
+ * An epoch ends by a mark, which a machine puts on the next word of one of its own players. The first settled row with a mark that
+ * counts ends it; of several in that row, the mark of the lowest player counts. Frame 0 of the next epoch is the frame after that row.
+ * All machines find the same end by themselves.
+ *
+ * A mark gives other delays to the players of the machine that puts it, gives another threshold, has somebody come, or changes
+ * nothing: then the frames begin anew, and that is all. Whatever it says, the players of a machine that has left are nobody's in the next
+ * epoch, and whoever comes may get them. Who comes gets the lowest number of a machine that nobody has. A player that gets another owner
+ * has a delay of 2 frames, unless the mark says another one.
+ *
+ * A mark is void, as if it weren't there, if its threshold is over 15 or a delay over 8, if it gives a delay to a player of another machine,
+ * or if whoever is to come isn't welcome. Of each player the first mark of an epoch counts alone, even if it is void.
+ *
+ * A turn of such a match:
+ *   fazgrond_peer_receive for each datagram that came, then fazgrond_peer_poll;
+ *   fazgrond_peer_is_running: until it says 1, give no words, and skip the next three lines;
+ *   fazgrond_peer_answer, if fazgrond_peer_ask has somebody who asks to come;
+ *   fazgrond_peer_go_on: if it is FAZGROND_OK, carry out the requests;
+ *   local words, the advance and its requests, as in any match;
+ *   fazgrond_peer_event until there is none. For each other machine fazgrond_peer_send, and then fazgrond_peer_send_before. Then
+ *   fazgrond_peer_send_more until there is nothing. */
+
+/* The owner of a player whom nobody owns now, and whom somebody who comes may get. It is another thing than FAZGROND_NO_PLAYER: such a
+ * player is in no epoch of the match. */
+#define FAZGROND_NOBODY 254
+
+/* Of a mark: the player's delay stays as it is. */
+#define FAZGROND_AS_BEFORE 0xffffffff
+
+/* How an epoch opens: the same at all machines. Machines keep their numbers over all epochs, and a machine is in an epoch if it owns a
+ * player there. All epochs of a match have the same players, and inputs of as many words. Begin with fazgrond_epoch_for. Who comes later
+ * opens with what the others' fazgrond_peer_epoch says once its epoch has begun. */
+typedef struct fazgrond_epoch {
+    uint32_t size;                     /* sizeof(fazgrond_epoch) */
+    uint32_t words;                    /* of how many words a player's input is, 1 to 4, as `words` of the match */
+    uint32_t threshold;                /* that of its sessions */
+    uint32_t machines;                 /* how many there are. It isn't read, since the owners say it */
+    uint64_t id;                       /* which epoch it is: 0 is the first one, and any other has a number of 64 bits of its own */
+    uint64_t base;                     /* how many frames of the match came before its first one */
+    uint32_t owners[FAZGROND_PLAYERS]; /* the machine of each player, player 1 first; FAZGROND_NOBODY if nobody owns it now,
+                                        * FAZGROND_NO_PLAYER if there is none */
+    uint32_t delays[FAZGROND_PLAYERS]; /* by how many frames each player's words count later, 0 to 8 */
+} fazgrond_epoch;
+
+/* What is to be otherwise in the next epoch. Begin with fazgrond_mark_for. */
+typedef struct fazgrond_mark {
+    uint32_t size;                     /* sizeof(fazgrond_mark) */
+    uint32_t threshold;                /* the new one, 1 to 15; 0: as before */
+    uint64_t ticket;                   /* by what your program knows who comes: whatever you choose. Of no meaning if nobody comes */
+    uint32_t comes[FAZGROND_PLAYERS];  /* 1 for each player that whoever comes is to own, player 1 first, else 0. If all are 0,
+                                        * nobody comes. Of an input of several words the first one is named. Where a player isn't
+                                        * nobody's, the lowest one that is takes its place */
+    uint32_t delays[FAZGROND_PLAYERS]; /* each player's new delay, 0 to 8, or FAZGROND_AS_BEFORE */
+} fazgrond_mark;
+
+/* Who asks to come. */
+typedef struct fazgrond_ask {
+    uint64_t ticket;                  /* that of the mark */
+    uint32_t player;                  /* by whose mark, counted from 1 */
+    uint32_t comes[FAZGROND_PLAYERS]; /* as in the mark */
+} fazgrond_ask;
+
+/* The first epoch of a match whose sessions have these settings: with its owners and the words of its inputs, and the settings'
+ * threshold and delays. Settings have a delay for the machine's own players alone, and 0 for others. So if other machines have delays,
+ * set those of their players: the epoch has to be the same at all machines. */
+static inline fazgrond_epoch fazgrond_epoch_for(const fazgrond_match *match, const fazgrond_settings *settings) {
+    fazgrond_epoch epoch;
+    int at;
+    epoch.size = (uint32_t)sizeof epoch;
+    epoch.words = match->words;
+    epoch.threshold = settings->threshold;
+    epoch.machines = match->machines;
+    epoch.id = 0;
+    epoch.base = 0;
+    for (at = 0; at < FAZGROND_PLAYERS; at++) {
+        epoch.owners[at] = match->owners[at];
+        epoch.delays[at] = settings->delays[at];
+    }
+    return epoch;
+}
+
+/* A mark that changes nothing: the frames begin anew, and that is all. */
+static inline fazgrond_mark fazgrond_mark_for(void) {
+    fazgrond_mark mark;
+    int at;
+    mark.size = (uint32_t)sizeof mark;
+    mark.threshold = 0;
+    mark.ticket = 0;
+    for (at = 0; at < FAZGROND_PLAYERS; at++) {
+        mark.comes[at] = 0;
+        mark.delays[at] = FAZGROND_AS_BEFORE;
+    }
+    return mark;
+}
+
+/* Opens a peer whose match goes on in epochs, beginning with this one. It carries, as one of fazgrond_peer_open_carrying. All machines of
+ * a match are opened so, or none. Of the match `owners`, `machines` and `words` aren't read, since the epoch says them, but they have to be
+ * 255 at most. Answers as fazgrond_peer_open, and FAZGROND_INVALID_REQUEST too if the session's threshold, or a delay of its own players,
+ * isn't that of the epoch. FAZGROND_OTHER_VERSION: the match or the epoch is of another version's header. */
+int32_t fazgrond_peer_open_lasting(fazgrond_peer *peer, fazgrond_session *session, const fazgrond_match *match,
+                                   const fazgrond_epoch *epoch);
+
+/* How the epoch opened that is played now. At what frame of the whole match the session is: its base and fazgrond_frame, together.
+ * FAZGROND_NOTHING: the match doesn't go on in epochs. */
+int32_t fazgrond_peer_epoch(fazgrond_peer *peer, fazgrond_epoch *epoch);
+
+/* Whether a machine is in this epoch and was in the one before: `flag` is 1 if so, else 0, as of one that has come in with this epoch. Of
+ * the epoch with which the peer was opened it is 0 for all. FAZGROND_NOTHING: as above. */
+int32_t fazgrond_peer_has_stayed(fazgrond_peer *peer, uint8_t machine, uint32_t *flag);
+
+/* Puts a mark on the next word that this player gives, counted from 1. If another machine's mark ends the epoch before, it is forgotten:
+ * see whether the next epoch is as you wanted it, and put the mark again if it isn't.
+ * FAZGROND_NO_MARKS: the match doesn't go on in epochs.
+ * FAZGROND_INVALID_PLAYER: it is no player of this machine, or not the first word of an input.
+ * FAZGROND_MARKED: it has a mark in this epoch already.
+ * FAZGROND_INVALID_REQUEST: a number of the mark fits nowhere. One that fits and is too great makes the mark void, and isn't refused.
+ * FAZGROND_OTHER_SESSION: as in other calls that take both.
+ * FAZGROND_OTHER_VERSION: the mark is of another version's header. */
+int32_t fazgrond_peer_mark(fazgrond_peer *peer, fazgrond_session *session, uint8_t player, const fazgrond_mark *mark);
+
+/* Who asks to come by a mark, and wasn't answered yet: the epoch doesn't end before. FAZGROND_NOTHING: nobody does. */
+int32_t fazgrond_peer_ask(fazgrond_peer *peer, fazgrond_ask *ask);
+
+/* Says whether whoever is to come by this player's mark is welcome (not 0) or isn't (0). All machines of the match have to say the same,
+ * so go by the ticket alone: test a signature of whoever arranges the match, say. FAZGROND_NOTHING: the match doesn't go on in
+ * epochs. */
+int32_t fazgrond_peer_answer(fazgrond_peer *peer, uint8_t player, uint32_t is_welcome);
+
+/* Goes on in the next epoch, if this one is over. Call it in each turn, after fazgrond_peer_poll and before the session is given words.
+ * FAZGROND_NOTHING: this epoch isn't over, or the match doesn't go on in epochs.
+ *
+ * If it is FAZGROND_OK, the session is one that has begun anew at the end of the epoch, and the peer that of the next one. The words of
+ * this machine's players that were given past the end are given again, and `frames` frames past it are run again: the session is at the
+ * frame `frames`. All that is counted by frames begins anew with it: settled rows, confirmed words, the log.
+ * It leaves requests, which are carried out as those of a rollback: the last ones of the old epoch, after which all slots are free but
+ * slot 0, which has the state at the end, and then those of the frames that are run again.
+ * The numbers of all jobs are forgotten: none of their requests may be carried out any more. So if threads carry some out, have them
+ * end before you take these requests, and graft or forget none of those jobs.
+ *
+ * FAZGROND_PENDING: the last requests of the epoch before weren't taken yet. Other answers are those of fazgrond_open and
+ * fazgrond_peer_open: this epoch stays as it is, but that words held back may have been handed over. FAZGROND_INVALID_REQUEST among them:
+ * the others go on without this machine, since it has left for them. */
+int32_t fazgrond_peer_go_on(fazgrond_peer *peer, fazgrond_session *session, uint32_t *frames);
+
+/* What is to be sent to a machine that may still be in the epoch before, in each turn after fazgrond_peer_send for it: a datagram, as
+ * there. So who hasn't come to this epoch yet is told how the one before ended. FAZGROND_NOTHING: there is nothing to send. */
+int32_t fazgrond_peer_send_before(fazgrond_peer *peer, uint8_t machine, uint32_t now, uint8_t *out, size_t room,
+                                  size_t *length);
+
 /* ---- Spectators over a network: a viewer on another machine is sent the settled rows of a match by one of its machines, the
  * host. Each viewer has a line of its own with its host. `now` is each end's own clock, as a peer's. */
 
@@ -589,6 +759,13 @@ int32_t fazgrond_line_receive(fazgrond_line *line, const uint8_t *bytes, size_t 
  * viewer has, as many as fit. Always give it the same session. FAZGROND_NOTHING once the line has ended. */
 int32_t fazgrond_line_send(fazgrond_line *line, fazgrond_session *session, uint32_t now, uint8_t *out, size_t room,
                            size_t *length);
+
+/* In a match that goes on in epochs a line is of one epoch, since rows are counted from its first frame on. Once the next one has begun,
+ * this call makes the datagrams of the line of the epoch before, of rows of its session, as fazgrond_line_send does of the one that is
+ * played; open another line for the new epoch. Rows are settled by rollbacks alone: to have all of the epoch told, call
+ * fazgrond_synchronize_input before fazgrond_peer_go_on if fazgrond_has_news, and carry out its requests, and hold no words back.
+ * FAZGROND_NOTHING too if there is no epoch before, or nobody can be in it any more. */
+int32_t fazgrond_line_send_before(fazgrond_line *line, fazgrond_peer *peer, uint32_t now, uint8_t *out, size_t room, size_t *length);
 
 /* The datagram that says that the host leaves the viewer: the line has ended. Send it a few times. FAZGROND_NOTHING: the two
  * haven't heard each other, so that nobody is to be told; the line has ended all the same. */
@@ -783,6 +960,29 @@ uint64_t fazgrond_state_digest(const fazgrond_state_name *name, uint64_t digest)
  * fazgrond_taker_send, and what the state is called that a piece is of. Whether that is the right one is for you to believe. */
 int32_t fazgrond_state_ask(uint64_t number, uint8_t me, uint64_t which, uint32_t frame, uint8_t *out, size_t room, size_t *size);
 int32_t fazgrond_state_told(uint64_t number, const uint8_t *bytes, size_t length, fazgrond_state_name *name);
+
+/* ---- which numbers were taken
+ *
+ * Whoever encrypts datagrams gives each a number that counts up, and takes none twice, so that a datagram which somebody recorded
+ * and sends again does nothing. A window knows which numbers were taken, for one sender: none is taken twice, and in any order each
+ * that isn't over FAZGROND_WINDOW_REACH below the highest. It takes no memory but its own; copy it as you like. All zeros is one
+ * of which no number was taken: fazgrond_window window = {0}. Ask fazgrond_window_is_new first, which costs nothing, then open the
+ * datagram, and only if it is genuine call fazgrond_window_note: else whoever forges datagrams takes the numbers of yours. */
+
+#define FAZGROND_WINDOW_REACH 1024
+#define FAZGROND_WINDOW_PLACES 17
+
+typedef struct fazgrond_window {
+    uint64_t highest; /* that was taken; 0 if none was */
+    uint64_t runs[FAZGROND_WINDOW_PLACES]; /* which 64 numbers a place has, and a bit for each of them that was taken */
+    uint64_t bits[FAZGROND_WINDOW_PLACES];
+} fazgrond_window;
+
+/* Whether a number is new: 1 if it wasn't taken and isn't too old, else 0. */
+uint32_t fazgrond_window_is_new(const fazgrond_window *window, uint64_t number);
+
+/* Takes a number, if it is new: 1 if so. Else 0, and nothing has changed. */
+uint32_t fazgrond_window_note(fazgrond_window *window, uint64_t number);
 
 #ifdef __cplusplus
 }
