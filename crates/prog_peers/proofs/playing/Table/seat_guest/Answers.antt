@@ -4,4 +4,4 @@ use Rattle.prog_peers.proofs.playing.Table.seat_guest.Goals as goal
 
 pub returns : goal.returns
 returns g c = map_set (λ m. m.me) c.args.self.now.machines.items c.args.comer c.come_in.new.self c.index_mut.result.now
-    (c.come_in.ensures ∙ ap (λ m. m.me) c.index_mut.ensures.value)
+    (c.come_in.ensures.me ∙ ap (λ m. m.me) c.index_mut.ensures.value)
