@@ -20,7 +20,7 @@ assert(#keys[1].open == 32 and keys[1].open ~= keys[2].open)
 
 local line, why = faz_line.open { me = 1, other = 1, keys = keys[1], their = keys[2].open }
 assert(line == nil and why == "the two are not two machines of a match", why)
-line, why = faz_line.open { me = 0, other = 1, keys = keys[1], their = keys[2].open, relays = { {}, {}, {}, {}, {} } }
+line, why = faz_line.open { me = 0, other = 1, keys = keys[1], their = keys[2].open, relays = { {}, {}, {}, {}, {}, {}, {}, {}, {} } }
 assert(line == nil and why == "there are too many relays", why)
 local relay = { address = "127.0.0.1", port = 3478, user = "user", password = ("x"):rep(300) }
 line, why = faz_line.open { me = 0, other = 1, keys = keys[1], their = keys[2].open, relays = { relay } }

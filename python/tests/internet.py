@@ -24,7 +24,7 @@ assert len(keys[0].open) == 32 and keys[0].open != keys[1].open
 relay = Relay("127.0.0.1", 3478, "user", "x" * 300)
 refused("two machines of a match", 1, 1, keys[0], keys[1].open)
 refused("another length", 0, 1, keys[0], b"short")
-refused("too many relays", 0, 1, keys[0], keys[1].open, relays=[relay] * 5)
+refused("too many relays", 0, 1, keys[0], keys[1].open, relays=[relay] * 9)
 refused("too long", 0, 1, keys[0], keys[1].open, relays=[relay])
 lines = Line(0, 1, keys[0], keys[1].open, stun=None), Line(1, 0, keys[1], keys[0].open)
 assert lines[0].number() == lines[1].number() != 0

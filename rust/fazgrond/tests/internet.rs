@@ -36,7 +36,7 @@ fn two_machines_talk() {
     };
     let relayed = LineSettings { relays: vec![relay.clone()], stun: Some((text("127.0.0.1"), 3478)), ..settings(0, 1) };
     assert!(Line::open(&relayed, &mut one, &open_two).unwrap_err().contains("too long"));
-    let many = LineSettings { relays: vec![relay.clone(); 5], ..settings(0, 1) };
+    let many = LineSettings { relays: vec![relay.clone(); 9], ..settings(0, 1) };
     assert_eq!(Line::open(&many, &mut one, &open_two).unwrap_err(), "there are too many relays");
     let mut lines = [
         Line::open(&settings(0, 1), &mut one, &open_two).unwrap(),
