@@ -3,7 +3,7 @@ local ffi = require "ffi"
 
 if not pcall(ffi.typeof, "fazgrond_session") then -- (this may be loaded more than once)
     ffi.cdef [[
-static const int FAZGROND_VERSION = 0x000101;
+static const int FAZGROND_VERSION = 0x000102;
 uint32_t fazgrond_version(void);
 size_t fazgrond_text(int32_t code, uint8_t *out, size_t room);
 static const int FAZGROND_PLAYERS = 8;
@@ -375,7 +375,7 @@ end
 
 return {
     numbers = {
-        VERSION = 257,
+        VERSION = 258,
         PLAYERS = 8,
         NO_PLAYER = 255,
         MACHINES = 8,

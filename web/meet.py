@@ -2,6 +2,8 @@
 sealed is sealed by libsodium, and short codes are proved by GnuTLS, both of which lie where aiortc does (Debian's libsodium23 and
 libgnutls30)."""
 import asyncio
+import base64
+import binascii
 import ctypes
 import hashlib
 import json
@@ -11,7 +13,9 @@ import urllib.parse
 
 SIGNS = "0123456789ABCDEFGHJKMNPQRSTVWXYZ"
 PAGE = 0x66617A2D70616765
-KEY, INBOX, NONCE, SEAL = 32, 16, 24, 40
+VERSION, KEY, INBOX, NONCE, SEAL = 2, 32, 32, 24, 40
+# Bytes of a code, of the name of who knocks, and of a room's name.
+CODE = KNOCK = NAME = 16
 WAITS, SEATED, BEGINS, REFUSED = range(4)
 REASONS = ["the host said no", "nobody hosts a match with this code now", "all seats are taken",
            "the host plays another game, or another version of it", "the host's player said no", "the host has left",
@@ -74,6 +78,17 @@ class Sodium:
         text = b"fazgrond speaks 1\0" + speaks
         return not self.calls.crypto_sign_verify_detached(proof, text, ctypes.c_ulonglong(len(text)), host)
 
+    def user(self, seed):
+        """A key of Ed25519 that follows from a seed, and its secret one."""
+        shown, secret = ctypes.create_string_buffer(KEY), ctypes.create_string_buffer(2 * KEY)
+        self.calls.crypto_sign_seed_keypair(shown, secret, seed)
+        return shown.raw, secret.raw
+
+    def signed(self, secret, data):
+        out = ctypes.create_string_buffer(64)
+        self.calls.crypto_sign_detached(out, None, data, ctypes.c_ulonglong(len(data)), secret)
+        return out.raw
+
     def open_box(self, keys, data):
         out = ctypes.create_string_buffer(max(len(data) - 48, 1))
         wrong = len(data) < 48 or self.calls.crypto_box_seal_open(out, data, ctypes.c_ulonglong(len(data)), *keys)
@@ -94,7 +109,7 @@ class Pair:
         self.key = hashlib.blake2b(text, key=room_key, digest_size=KEY).digest()
 
     def words(self):
-        signs = "".join(SIGNS[it & 31] for it in follow("fazgrond words 1", self.key, INBOX)[:8])
+        signs = "".join(SIGNS[it & 31] for it in follow("fazgrond words 1", self.key, 16)[:8])
         return f"{signs[:4]}-{signs[4:]}"
 
     def seal(self, kind, data):
@@ -164,7 +179,7 @@ def read_code(text):
     if len(signs) == 7:
         return signs[:3], signs[3:]
     number = sum(SIGNS.index(it) << 5 * at for at, it in enumerate(reversed(signs)))
-    code = (number >> 12).to_bytes(16, "big")
+    code = (number >> 12).to_bytes(CODE, "big")
     if int.from_bytes(follow("fazgrond slip 1", code, 16)[:2], "big") >> 4 != number & 0xFFF:
         raise Failed("this is no code: a sign of it may be wrong or missing")
     return code
@@ -191,26 +206,78 @@ def text_bytes(text):
     return bytes([len(text.encode())]) + text.encode()
 
 
+# ---- passes, as c/lobby/pass.h has them
+
+ACCOUNT, USER, SEED = 0, 20 << 3, 18 << 3
+
+
+def key_text(data):
+    return base64.b32encode(data + binascii.crc_hqx(data, 0).to_bytes(2, "little")).decode().rstrip("=")
+
+
+def read_key(text):
+    """The bytes of such a text; none if it is none."""
+    try:
+        data = base64.b32decode(text + "=" * (-len(text) % 8))[:-2]
+    except ValueError:
+        return b""
+    return data if key_text(data) == text else b""
+
+
+def inbox_subject(inbox):
+    return f"faz.in.{key_text(bytes([USER]) + inbox)}"
+
+
+def base64_text(data):
+    return base64.urlsafe_b64encode(data).decode().rstrip("=")
+
+
+class Pass:
+    """What is before the @ in a broker's URL, unless that is a user and a password."""
+
+    def __init__(self, text):
+        seed, self.account = read_key(text[:58]), text[58:]
+        if seed[:2] != bytes([SEED, ACCOUNT]) or len(seed) != 2 + KEY or len(read_key(self.account)) != 1 + KEY or self.account[0] != "A":
+            raise Failed("the pass in the broker's address can't be read: a sign of it may be wrong or missing")
+        self.seed = seed[2:]
+
+    def token(self, sodium, user):
+        shown, secret = sodium.user(self.seed)
+        rest = {"issuer_account": self.account, "type": "user", "version": 2}
+        claims = {"iss": key_text(bytes([ACCOUNT]) + shown), "sub": user, "nats": rest}
+        parts = [json.dumps(it, separators=(",", ":")).encode() for it in ({"typ": "JWT", "alg": "ed25519-nkey"}, claims)]
+        text = ".".join(map(base64_text, parts))
+        return f"{text}.{base64_text(sodium.signed(secret, text.encode()))}"
+
+
 # ---- the broker
 
 class Broker:
-    """A connection to a NATS broker: nats://HOST:PORT or tls://HOST:PORT, maybe with a user and a password."""
+    """A connection to a NATS broker: nats://HOST:PORT or tls://HOST:PORT, maybe with a pass, or with a user and a password."""
+
+    def __init__(self, sodium):
+        self.sodium = sodium
+        shown, self.secret = sodium.user(os.urandom(KEY))
+        self.user = key_text(bytes([USER]) + shown)
+        self.inbox = f"faz.in.{self.user}"
 
     async def open(self, url):
         to = urllib.parse.urlsplit(url)
         if to.scheme not in ("nats", "tls") or to.hostname is None:
             raise Failed("the broker's address is none: nats://HOST:PORT was expected")
+        self.by = Pass(to.username) if to.username and to.password is None else None
         try:
             self.reader, self.writer = await asyncio.open_connection(to.hostname, to.port or 4222)
-            await self.reader.readline()  # (INFO)
+            nonce = str(json.loads((await self.reader.readline()).partition(b" ")[2] or "{}").get("nonce", ""))
             if to.scheme == "tls":
                 await self.writer.start_tls(True, server_hostname=to.hostname)
-        except OSError as why:
+        except (OSError, ValueError) as why:
             raise Failed(f"the broker isn't there: {why}") from None
         told = {"verbose": False, "pedantic": False, "headers": True, "no_responders": True, "lang": "python", "version": "1"}
-        if to.username is not None:
+        if self.by is not None:
+            told.update(jwt=self.by.token(self.sodium, self.user), sig=base64_text(self.sodium.signed(self.secret, nonce.encode())))
+        elif to.username is not None:
             told.update(user=urllib.parse.unquote(to.username), **{"pass": urllib.parse.unquote(to.password or "")})
-        self.inbox = f"faz.in.{os.urandom(INBOX).hex()}"
         self.writer.write(f"CONNECT {json.dumps(told)}\r\nSUB {self.inbox} 1\r\n".encode())
 
     def say(self, subject, data, is_asked=False):
@@ -224,6 +291,8 @@ class Broker:
                 raise Failed("the broker is gone")
             if line[0] == "PING":
                 self.writer.write(b"PONG\r\n")
+            elif line[0] == "-ERR" and "Authorization" in " ".join(line) and self.by is not None:
+                raise Failed("the broker doesn't take this pass")
             elif line[0] == "-ERR":
                 raise Failed(f"the broker says: {' '.join(line[1:])}")
             elif line[0] in ("MSG", "HMSG"):
@@ -243,8 +312,8 @@ class Lobby:
 
     def __init__(self, url, name, digest, told):
         self.url, self.name, self.digest, self.told = url, name, digest ^ PAGE, told
-        self.sodium, self.broker, self.early, self.servers, self.counter, self.reading = Sodium(), Broker(), [], [], 0, None
-        self.keys = self.sodium.keys()
+        self.sodium, self.early, self.servers, self.counter, self.reading = Sodium(), [], [], 0, None
+        self.broker, self.keys = Broker(self.sodium), self.sodium.keys()
 
     async def join(self, text, has_door):
         code = read_code(text)
@@ -254,9 +323,9 @@ class Lobby:
         if plate:
             offer = await self.knock(plate, secret, f"faz.meet.{token.hex()}")
         else:
-            name = follow("fazgrond room 1", code, INBOX).hex()
+            name = follow("fazgrond room 1", code, NAME).hex()
             self.room_key = follow("fazgrond room key 1", code, KEY)
-            hello = b"h" + self.sodium.seal(self.room_key, bytes([1]) + self.keys[0], b"h")
+            hello = b"h" + self.sodium.seal(self.room_key, bytes([VERSION]) + self.keys[0], b"h")
             offer = await self.answered(f"faz.meet.{name}", hello, b"o")
         await self.ask(self.take_offer(offer, None if plate else code))
 
@@ -268,7 +337,7 @@ class Lobby:
             came = await self.within(AGAIN, kinds)
             if came is not None:
                 return came
-        raise Failed("nobody who hosts a match with this code answers")
+        raise Failed("nobody who hosts a match with this code answers: the host is gone, or its game has an older version of this library")
 
     async def within(self, seconds, kinds):
         """A message of these kinds; None if none comes in time. Signals are kept."""
@@ -310,12 +379,12 @@ class Lobby:
         return token
 
     async def knock(self, plate, secret, subject):
-        pake, mine, came = Pake(plate, secret), os.urandom(INBOX), b""
+        pake, mine, came = Pake(plate, secret), os.urandom(KNOCK), b""
         for step in (1, 2):
             said, _ = pake.turn(came)
             answer = Reader(await self.answered(subject, struct.pack(">c16sBBH", b"k", mine, step, 0, len(said)) + said, b"n"))
             answer.take(1)
-            theirs, at, wrong = answer.take(INBOX), answer.number(1), answer.number(1)
+            theirs, at, wrong = answer.take(KNOCK), answer.number(1), answer.number(1)
             came = answer.take(answer.number(2))
             if wrong or theirs != mine or at != step:
                 raise Failed(REASONS[8])
@@ -327,13 +396,13 @@ class Lobby:
     def take_offer(self, data, code):
         """The host's inbox. With a short code the key by which the offer is sealed says that it is the host's."""
         of = Reader(self.sodium.open(self.room_key, data[1:], b"o") or b"")
-        if of.number(1) != 1:
+        if of.number(1) != VERSION:
             raise Failed(REASONS[6])
         host, speaks, proof, inbox = of.take(KEY), of.take(KEY), of.take(64), of.take(INBOX)
         if not self.sodium.vouched(proof, host, speaks) or (code is not None and follow("fazgrond code 1", host, 16) != code):
             raise Failed("who answers isn't the host of this code")
         self.pair = Pair(self.sodium, self.room_key, self.keys, speaks)
-        return f"faz.in.{inbox.hex()}"
+        return inbox_subject(inbox)
 
     def asking(self):
         self.counter += 1
@@ -369,7 +438,7 @@ class Lobby:
         if machines != 2 or self.me != 1 or members[0][0] != self.pair.theirs or members[1][0] != self.keys[0]:
             raise Failed("this match isn't one of two, or not of this page")
         self.pair = Pair(self.sodium, key, self.keys, members[0][0])
-        self.other = f"faz.in.{members[0][1].hex()}"
+        self.other = inbox_subject(members[0][1])
 
     def close(self):
         if self.reading is not None:

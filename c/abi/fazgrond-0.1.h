@@ -22,7 +22,7 @@ extern "C" {
 #endif
 
 /* The version of this header: major << 16 | minor << 8 | patch. docs/VERSIONS.md says what raises which of them. */
-#define FAZGROND_VERSION 0x000101
+#define FAZGROND_VERSION 0x000102
 
 /* The version of the library that the program runs with. While the major number is 0, a library fits a header with the same major
  * and minor number. If a library knows another size of fazgrond_settings, fazgrond_match or fazgrond_epoch than the header, it opens

@@ -19,8 +19,9 @@ static const char usage[] =
     "duel [OPTIONS] PORT PLAYER PLAYER [PLAYER [PLAYER]] [viewer:ADDRESS ..]    a duel of ships for two to four\n"
     "duel [OPTIONS] --watch PLAYERS PORT ADDRESS    watches one, at a machine that has this one as a viewer\n"
     "duel [OPTIONS] --host PLAYERS    waits for friends over the internet, who join by the code that it prints\n"
-    "duel [OPTIONS] --join CODE       joins one\n"
-    "  PLAYER        local, or the address of a machine, as 10.0.0.7:7001; the same order at all machines\n"
+    "duel [OPTIONS] --join CODE       joins one; with - in the place of CODE it is typed once the broker is there\n"
+    "  PLAYER        local, or the address of a machine, as 10.0.0.7:7001; the same order at all machines. With --rejoin later:local or\n"
+    "                later:ADDRESS is one who comes later, for whom the match doesn't wait\n"
     "  --bot SEED    plays by itself (SEED is 1 or more)\n"
     "  --headless    no window; ships stay where they are without --bot\n"
     "  --frames N    ends once frame N is settled, and prints its state\n"
@@ -37,7 +38,8 @@ static const char usage[] =
     "  --broker URL  where friends meet (nats://127.0.0.1:4222)      --trusted FILE  certificates by which it is believed\n"
     "  --stun ADDRESS[:PORT]  --relay USER:PASSWORD@ADDRESS[:PORT]  --tcp-relay the same, by TCP  --relay-only\n"
     "  --name NAME   as friends see it                               --ask           who joins has to be let in\n"
-    "  --door        the broker has a door: codes are short, who joins has to be let in, and relays are the door's\n";
+    "  --door        the broker has a door: codes are short, who joins has to be let in, and relays are the door's\n"
+    "  --begin-with N    with --host and --rejoin: the match begins once N are there, and who comes later has a ship too\n";
 
 enum { TURN = 16667, PAST_LAST = 32, LINES = 6, MOST_BEHIND = 6, CATCH_UP = 8, TIMEOUT = 5000, TIMEOUT_ONLINE = 10000 };
 
@@ -57,6 +59,7 @@ static struct {
     /* What the command line says. */
     long frames, lag, loss, junk, speed, delay, timeout, sync_frames, bot, match, watch, helpers;
     bool is_headless, can_rejoin;
+    bool is_vacant[DUEL_SHIPS]; /* nobody has played it yet */
     casting cast;
     online online;
 } self = { .speed = 1, .delay = 1, .timeout = -1, .cast = { .broker = "nats://127.0.0.1:4222", .rate = 60 } };
@@ -118,7 +121,9 @@ static void tell_epoch(int frame, int came) {
     fprintf(stderr, "the match goes on from frame %d\n", frame);
     for (int player = 1; player <= self.players; player++)
         if ((came >> (player - 1) & 1) != 0)
-            say(player, " is back", 0);
+            say(player, self.is_vacant[player - 1] ? " comes in" : " is back", 0);
+    for (int player = 0; player < self.players; player++)
+        self.is_vacant[player] = self.is_vacant[player] && (came >> player & 1) == 0;
 }
 
 static bool on_event(GGPOEvent *event) {
@@ -296,6 +301,7 @@ static const option options[] = {
     { "--relay", NULL, &self.online.relay, NULL },   { "--tcp-relay", NULL, &self.online.tcp_relay, NULL },
     { "--name", NULL, &self.online.name, NULL },     { "--relay-only", NULL, NULL, &self.online.relay_only },
     { "--ask", NULL, NULL, &self.online.asks },      { "--door", NULL, NULL, &self.online.by_door },
+    { "--begin-with", &self.online.begin_with, NULL, NULL },
     { NULL, NULL, NULL, NULL },
 };
 
@@ -311,10 +317,13 @@ static bool read_address(const char *word, GGPOPlayer *player) {
     return true;
 }
 
-static bool add(GGPOPlayer *player) {
+static bool add(GGPOPlayer *player, bool is_vacant) {
     GGPOPlayerHandle handle;
-    if (!GGPO_SUCCEEDED(ggpo_add_player(self.session, player, &handle)))
+    if (!GGPO_SUCCEEDED(ggpo_add_player(self.session, player, &handle))
+        || (is_vacant && !GGPO_SUCCEEDED(fazggpo_set_vacant(self.session, handle))))
         return false;
+    if (is_vacant)
+        self.is_vacant[player->player_num - 1] = true;
     if (player->type == GGPO_PLAYERTYPE_LOCAL) {
         self.bots[self.locals] = duel_bot_of(self.bot, player->player_num);
         self.local[self.locals++] = handle;
@@ -326,12 +335,14 @@ static bool add(GGPOPlayer *player) {
 
 static bool add_player(const char *word, int number) {
     GGPOPlayer player = { .size = sizeof player, .type = GGPO_PLAYERTYPE_LOCAL, .player_num = number };
+    bool is_vacant = strncmp(word, "later:", 6) == 0;
+    word += is_vacant ? 6 : 0;
     if (strcmp(word, "local") != 0) {
         player.type = is_viewer(word) ? GGPO_PLAYERTYPE_SPECTATOR : GGPO_PLAYERTYPE_REMOTE;
         if (!read_address(is_viewer(word) ? word + 7 : word, &player))
             return false;
     }
-    return add(&player);
+    return add(&player, is_vacant);
 }
 
 /* All players of a match whose machines have met by a code. */
@@ -340,7 +351,7 @@ static bool add_met(void) {
     for (int number = 1; number <= self.players && is_ready; number++) {
         GGPOPlayer player = { .size = sizeof player, .player_num = number };
         online_player(&self.online, number, &player);
-        is_ready = add(&player);
+        is_ready = add(&player, self.online.is_vacant[number - 1]);
     }
     return is_ready && (self.can_rejoin || online_seal(self.session));
 }

@@ -16,15 +16,17 @@ static struct {
     faz_lobby_match match;
     lobby_words words;
     uint32_t asking; /* who waits for an answer of this player's; 0: nobody */
+    bool needs_code, has_asked; /* the code is typed at the terminal, which the player was told */
 } self;
 
 static void tell_events(void) {
     faz_lobby_event event;
     char text[TEXT];
     while (faz_lobby_next_event(self.lobby, &event)) {
-        lobby_words_of(&event, text, sizeof text);
+        faz_lobby_words_of(&event, text, sizeof text);
         if (*text != 0)
             fprintf(stderr, "%s\n", text);
+        faz_lobby_words_begin(&self.words, self.lobby, &event);
         if (event.what != FAZ_LOBBY_ASKS || event.who == 0)
             continue;
         self.asking = event.who;
@@ -35,16 +37,30 @@ static void tell_events(void) {
 static void turn(void) {
     faz_lobby_turn(self.lobby, (uint32_t)(clock_micros() / 1000));
     tell_events();
+    self.asking = faz_lobby_words_let_in(self.lobby, self.asking);
+}
+
+/* Once the broker is there, the player types the code. */
+static void take_code(void) {
+    if (!self.needs_code || faz_lobby_stage_of(self.lobby) != FAZ_LOBBY_MEETING)
+        return;
+    if (!self.has_asked)
+        fputs("type the code\n", stderr);
+    self.has_asked = true;
+    self.needs_code = !faz_lobby_words_enter(self.lobby);
 }
 
 static bool open(const online *wish) {
     faz_lobby_settings settings = { .digest = DIGEST, .players = (uint32_t)wish->host, .any_sender = true };
     self.words = (lobby_words){ .broker = wish->broker, .trusted = wish->trusted, .stun = wish->stun, .relay = wish->relay,
                                 .tcp_relay = wish->tcp_relay, .name = wish->name, .relay_only = wish->relay_only,
-                                .asks = wish->asks, .by_door = wish->by_door, .lasts = wish->lasts };
-    const char *why = lobby_words_read(&self.words, &settings);
+                                .asks = wish->asks, .by_door = wish->by_door, .lasts = wish->lasts,
+                                .begin_with = wish->begin_with };
+    self.needs_code = wish->code != NULL && strcmp(wish->code, "-") == 0;
+    const char *why = faz_lobby_words_read(&self.words, &settings);
     if (why == NULL)
-        self.lobby = wish->host > 0 ? faz_lobby_host(&settings, &why) : faz_lobby_join(&settings, wish->code, &why);
+        self.lobby = wish->host > 0 ? faz_lobby_host(&settings, &why)
+            : self.needs_code ? faz_lobby_open(&settings, &why) : faz_lobby_join(&settings, wish->code, &why);
     if (self.lobby == NULL)
         fprintf(stderr, "duel: %s\n", why);
     return self.lobby != NULL;
@@ -55,7 +71,7 @@ bool online_meet(online *wish) {
         return false;
     while (faz_lobby_stage_of(self.lobby) < FAZ_LOBBY_READY) {
         turn();
-        self.asking = lobby_words_let_in(self.lobby, self.asking);
+        take_code();
         nanosleep(&(struct timespec){ .tv_nsec = MILLISECOND }, NULL);
     }
     if (faz_lobby_stage_of(self.lobby) != FAZ_LOBBY_READY || !faz_lobby_get_match(self.lobby, &self.match)
@@ -64,8 +80,10 @@ bool online_meet(online *wish) {
     if (self.match.code[0] != 0)
         fprintf(stderr, "whoever stops comes back by --join %s\n", self.match.code);
     wish->players = (int)self.match.players;
-    for (int at = 0; at < wish->players; at++)
+    for (int at = 0; at < wish->players; at++) {
         wish->is_local[at] = self.match.owners[at] == self.match.me;
+        wish->is_vacant[at] = wish->is_local[at] ? self.match.is_late : (self.match.vacant >> self.match.owners[at] & 1) != 0;
+    }
     return true;
 }
 

@@ -13,9 +13,11 @@ typedef struct online {
     long host;                /* so many play, and this machine hosts; 0: it joins */
     const char *code, *broker, *trusted, *stun, *relay, *tcp_relay, *name;
     bool relay_only, asks, by_door, lasts;
+    long begin_with;          /* as in lobby_words */
     /* What was met. */
     int players;
-    bool is_local[DUEL_SHIPS]; /* player 1 first */
+    bool is_local[DUEL_SHIPS];  /* player 1 first */
+    bool is_vacant[DUEL_SHIPS]; /* nobody plays it as the match begins, or as this machine comes into it */
 } online;
 
 #ifdef DUEL_ONLINE

@@ -141,11 +141,19 @@ static int place_at(const GGPOSession *session, const struct sockaddr_in *from) 
     return -1;
 }
 
+/* False: it isn't a packet of the match. What comes before that has begun is answered at once, so that it begins sooner. */
+static bool take_of_match(GGPOSession *session, const uint8_t *bytes, size_t length) {
+    if (fazgrond_peer_receive(&session->peer, &session->rollback, bytes, length, ggponet_millis(session)) != FAZGROND_OK)
+        return false;
+    if (!session->has_begun)
+        session->send_due = 0;
+    return true;
+}
+
 /* A datagram of a machine is the match's, or of who comes there. */
 static void take_of_place(GGPOSession *session, int place, int sender, const uint8_t *bytes, size_t length) {
     bool is_of_match = sender < MACHINES && ggponet_place_of(session, (uint32_t)sender) == place;
-    if (!is_of_match
-        || fazgrond_peer_receive(&session->peer, &session->rollback, bytes, length, ggponet_millis(session)) != FAZGROND_OK)
+    if (!is_of_match || !take_of_match(session, bytes, length))
         ggponet_hear_who_comes(session, place, bytes, length);
 }
 
@@ -159,7 +167,7 @@ static void take(GGPOSession *session, const struct sockaddr_in *from, const uin
         take_of_place(session, at, sender, bytes, length);
     else if (sender < session->machines && sender != session->me
              && ggponet_is_address(from, &session->machine[sender].address))
-        fazgrond_peer_receive(&session->peer, &session->rollback, bytes, length, ggponet_millis(session));
+        take_of_match(session, bytes, length);
     else if ((at = ggponet_spectator_at(session, from)) >= 0)
         ggponet_hear_spectator(session, at, bytes, length);
 }

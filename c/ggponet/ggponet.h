@@ -315,6 +315,13 @@ GGPO_API GGPOErrorCode __cdecl fazggpo_get_settled_from(GGPOSession *session, in
  * of a player who stopped: its other program is put out at once. */
 GGPO_API GGPOErrorCode __cdecl fazggpo_rejoin(GGPOSession *session);
 
+/* In such a match, before it opens: nobody plays this player as the match begins, and its machine isn't waited for. Until somebody comes
+ * the player counts as one who has left, of which no event tells. Every machine that begins the match calls it for the same players; one
+ * may begin alone. A program that comes later calls it for its own players, and then comes in as one that comes back, without waiting for
+ * a match to begin. It is refused with GGPO_ERRORCODE_INVALID_REQUEST without fazggpo_rejoin, and the match doesn't open if some players
+ * of a machine are vacant and others aren't. */
+GGPO_API GGPOErrorCode __cdecl fazggpo_set_vacant(GGPOSession *session, GGPOPlayerHandle player);
+
 /* ---- Guesses: where a processor is idle, it can play frames before the inputs come that would need them. A guess is that a remote
  * player goes on with its last input for some frames, and then goes back to the one before. If it comes true, a rollback loads a
  * state that is there, and plays fewer frames again or none. What is shown is the same as without.

@@ -102,6 +102,7 @@ typedef struct player {
     pair_number pair; /* with the machine of this player */
     int machine;
     int delay;
+    bool is_vacant; /* nobody plays it as the match begins */
     int words_gone; /* how many of its words have left */
     bool has_left;
 } player;
@@ -298,6 +299,8 @@ void ggponet_send_bye(GGPOSession *session, int to, const uint8_t *bytes, size_t
 /* ---- rejoin.c */
 
 GGPOErrorCode ggponet_open_seats(GGPOSession *session);
+/* This machine comes into a match that runs. */
+void ggponet_begin_to_come(GGPOSession *session);
 void ggponet_close_seats(GGPOSession *session);
 int ggponet_place_of(const GGPOSession *session, uint32_t machine);
 /* Which machine has this place now; MACHINES if none has. */

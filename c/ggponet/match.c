@@ -38,6 +38,19 @@ static void place_players(GGPOSession *session) {
         session->place_of[at] = at;
 }
 
+/* Of a vacant player nobody is told that it has left. False: others of its machine aren't vacant. */
+static bool take_vacant(GGPOSession *session) {
+    bool are_alike = true;
+    for (int at = 0; at < session->players; at++) {
+        player *of = &session->player[at];
+        const player *first = &session->player[session->machine[of->machine].handle - 1];
+        are_alike = are_alike && of->is_vacant == first->is_vacant;
+        of->has_left = of->is_vacant;
+        of->words_gone = of->is_vacant ? session->words : 0;
+    }
+    return are_alike;
+}
+
 static fazgrond_settings the_settings(const GGPOSession *session) {
     fazgrond_settings settings = fazgrond_settings_for((uint32_t)ggponet_all_words(session));
     settings.threshold = GGPO_MAX_PREDICTION_FRAMES;
@@ -107,13 +120,21 @@ GGPOErrorCode ggponet_open_lasting(GGPOSession *session, const fazgrond_settings
     return ggponet_refused(session, answer);
 }
 
-/* The first epoch. Which delays the others have is their own affair. */
+/* The first epoch. Which delays the others have is their own affair. Whose own player is vacant doesn't begin with them. */
 static GGPOErrorCode open_first_epoch(GGPOSession *session) {
     fazgrond_settings settings = the_settings(session);
     fazgrond_match match = the_match(session);
+    bool comes_later = session->player[session->machine[session->me].handle - 1].is_vacant;
     session->epoch = fazgrond_epoch_for(&match, &settings);
-    GGPOErrorCode code = ggponet_open_lasting(session, &settings);
-    return code == GGPO_OK ? ggponet_open_seats(session) : code;
+    for (int at = 0; at < ggponet_all_words(session); at++)
+        if (session->player[at / session->words].is_vacant)
+            session->epoch.owners[at] = FAZGROND_NOBODY;
+    GGPOErrorCode code = comes_later ? GGPO_OK : ggponet_open_lasting(session, &settings);
+    if (code == GGPO_OK)
+        code = ggponet_open_seats(session);
+    if (code == GGPO_OK && comes_later)
+        ggponet_begin_to_come(session);
+    return code;
 }
 #else
 static int32_t open_peer(GGPOSession *session, const fazgrond_match *match) {
@@ -157,6 +178,8 @@ GGPOErrorCode ggponet_open_match(GGPOSession *session) {
         return ggponet_refuse(session, GGPO_ERRORCODE_INVALID_REQUEST, "no player is local");
     if (session->machines < 2)
         return ggponet_refuse(session, GGPO_ERRORCODE_UNSUPPORTED, "all players are local, so that there is no match");
+    if (!take_vacant(session))
+        return ggponet_refuse(session, GGPO_ERRORCODE_INVALID_REQUEST, "of one machine some players are vacant, and some aren't");
     GGPOErrorCode code = ggponet_take_pairs(session);
     if (code == GGPO_OK)
         code = open_both(session);

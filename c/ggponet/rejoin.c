@@ -19,6 +19,23 @@ GGPOErrorCode fazggpo_rejoin(GGPOSession *session) {
     return GGPO_OK;
 }
 
+GGPOErrorCode fazggpo_set_vacant(GGPOSession *session, GGPOPlayerHandle handle) {
+    GGPOErrorCode code = ggponet_can_call(session, "fazggpo_set_vacant");
+    if (code != GGPO_OK)
+        return code;
+    if (session->is_spectating)
+        return ggponet_only_watches(session, "fazggpo_set_vacant");
+    player *of = ggponet_player_of(session, handle);
+    if (of == NULL)
+        return ggponet_no_player(session, handle);
+    if (session->is_open)
+        return ggponet_is_too_late(session, "that nobody plays a player");
+    if (!session->can_rejoin)
+        return ggponet_refuse(session, GGPO_ERRORCODE_INVALID_REQUEST, "nobody comes into a match without fazggpo_rejoin");
+    of->is_vacant = true;
+    return GGPO_OK;
+}
+
 int ggponet_place_of(const GGPOSession *session, uint32_t machine) {
     return machine < MACHINES ? session->place_of[machine] : GGPO_INVALID_HANDLE;
 }
@@ -236,16 +253,19 @@ void ggponet_ask_to_come(GGPOSession *session) {
         faz_comer_turn(&session->comer, ggponet_millis(session));
 }
 
+void ggponet_begin_to_come(GGPOSession *session) {
+    ggpo_log(session, "this machine comes into a match that runs");
+    fazgrond_peer_close(&session->peer);
+    fazgrond_close(&session->rollback);
+    session->comer.only_asks = false;
+    session->is_coming = true;
+}
+
 GGPOErrorCode ggponet_come(GGPOSession *session) {
     if (!session->can_rejoin || session->has_begun || session->comer.is_in)
         return GGPO_OK;
-    if (is_left_out(session)) {
-        ggpo_log(session, "the match runs: this machine comes in");
-        fazgrond_peer_close(&session->peer);
-        fazgrond_close(&session->rollback);
-        session->comer.only_asks = false;
-        session->is_coming = true;
-    }
+    if (is_left_out(session))
+        ggponet_begin_to_come(session);
     return session->is_coming ? take_what_came(session) : GGPO_OK;
 }
 

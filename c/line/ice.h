@@ -45,9 +45,9 @@ bool ice_close(ice *self);
 /* Lets go of it at once, whatever servers still hold. */
 void ice_drop(ice *self);
 
-/* Waits for a millisecond. */
-void ice_wait(void);
+/* Waits for a millisecond. Lobbies call this and the next one, which are therefore seen outside of the archive of lines. */
+void faz_ice_wait(void);
 
 /* A sum of this machine's addresses: another one if they change. */
-uint64_t ice_addresses(void);
+uint64_t faz_ice_addresses(void);
 #endif

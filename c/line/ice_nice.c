@@ -18,6 +18,12 @@ enum { NETWORK = 8 };
 /* What isn't answered is sent again after so many milliseconds, after twice that, and so on, this often. */
 enum { ASKED_AGAIN = 250, TIMES = 4 };
 
+/* In this turn relays are asked, if there is a STUN server: libnice drops what that one answers if it was asked behind them. */
+enum { RELAYS_IN = 2 };
+
+/* Milliseconds between two packets of a way that is looked for: the least that ICE allows. */
+enum { PACED = 5 };
+
 struct ice {
     GMainContext *context;
     NiceAgent *agent;
@@ -26,6 +32,7 @@ struct ice {
     ice_state state;
     char text[ICE_TEXTS][ICE_TEXT];
     size_t texts, candidates;
+    int turns;
     bool is_closing, is_closed;
 };
 
@@ -67,10 +74,8 @@ static void on_closed(GObject *agent, GAsyncResult *result, gpointer of) {
     self->is_closed = true;
 }
 
-static void set_servers(ice *self) {
+static void set_relays(ice *self) {
     const faz_line_settings *line = self->settings.line;
-    if (line->stun != NULL)
-        g_object_set(self->agent, "stun-server", line->stun, "stun-server-port", (guint)line->stun_port, NULL);
     for (uint32_t at = 0; at < line->relay_count; at++) {
         const faz_line_relay *relay = &line->relays[at];
         nice_agent_set_relay_info(self->agent, self->stream, 1, relay->address, relay->port, relay->user, relay->password,
@@ -106,12 +111,15 @@ ice *ice_open(const ice_settings *settings) {
                                       NICE_AGENT_OPTION_ICE_TRICKLE | NICE_AGENT_OPTION_CONSENT_FRESHNESS);
     g_object_set(self->agent, "controlling-mode", (gboolean)settings->leads, "upnp", FALSE, "ice-tcp", FALSE, "force-relay",
                  (gboolean)settings->line->relay_only, "stun-initial-timeout", (guint)ASKED_AGAIN, "stun-max-retransmissions",
-                 (guint)TIMES, NULL);
+                 (guint)TIMES, "stun-pacing-timer", (guint)PACED, NULL);
     g_signal_connect(self->agent, "new-candidate-full", G_CALLBACK(on_candidate), self);
     g_signal_connect(self->agent, "candidate-gathering-done", G_CALLBACK(on_gathered), self);
     g_signal_connect(self->agent, "component-state-changed", G_CALLBACK(on_state), self);
     self->stream = nice_agent_add_stream(self->agent, 1);
-    set_servers(self);
+    if (settings->line->stun != NULL)
+        g_object_set(self->agent, "stun-server", settings->line->stun, "stun-server-port", (guint)settings->line->stun_port, NULL);
+    else
+        set_relays(self);
     nice_agent_attach_recv(self->agent, self->stream, 1, self->context, on_datagram, self);
     tell_credentials(self);
     if (!nice_agent_gather_candidates(self->agent, self->stream))
@@ -127,6 +135,8 @@ static void run(ice *self) {
 
 void ice_turn(ice *self) {
     run(self);
+    if (self->turns < RELAYS_IN && ++self->turns == RELAYS_IN && self->settings.line->stun != NULL)
+        set_relays(self);
 }
 
 const char *ice_text(const ice *self, size_t at) {
@@ -212,11 +222,11 @@ bool ice_close(ice *self) {
     return true;
 }
 
-void ice_wait(void) {
+void faz_ice_wait(void) {
     g_usleep(1000);
 }
 
-uint64_t ice_addresses(void) {
+uint64_t faz_ice_addresses(void) {
     uint64_t sum = 0;
     GList *all = nice_interfaces_get_local_ips(FALSE);
     for (GList *each = all; each != NULL; each = each->next)

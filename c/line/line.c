@@ -210,7 +210,7 @@ static bool is_tried(const faz_line *self) {
 static bool has_moved(faz_line *self) {
     if (since(self, self->looked_at) < LOOKED)
         return false;
-    uint64_t addresses = ice_addresses();
+    uint64_t addresses = faz_ice_addresses();
     bool has = addresses != self->addresses;
     self->addresses = addresses;
     self->looked_at = self->now;
@@ -416,7 +416,7 @@ faz_line *faz_line_open(const faz_line_settings *settings, const char **why) {
         faz_line_close(self);
         return NULL;
     }
-    self->addresses = ice_addresses();
+    self->addresses = faz_ice_addresses();
     return self;
 }
 
@@ -426,7 +426,7 @@ void faz_line_close(faz_line *self) {
     retire(self, &self->newest);
     retire(self, &self->before);
     for (int waited = 0; !close_more(self) && waited < LAST; waited++)
-        ice_wait();
+        faz_ice_wait();
     for (size_t at = 0; at < CLOSING; at++)
         if (self->closing[at] != NULL)
             ice_drop(self->closing[at]);

@@ -57,7 +57,7 @@ static void add_address(void *of, const struct sockaddr_in *address) {
     *sum += UINT64_C(0x9e3779b97f4a7c15) * (address->sin_addr.s_addr + UINT64_C(1));
 }
 
-uint64_t ice_addresses(void) {
+uint64_t faz_ice_addresses(void) {
     uint64_t sum = 0;
     of_addresses(add_address, &sum);
     return sum;
@@ -185,6 +185,6 @@ bool ice_close(ice *self) {
     return true;
 }
 
-void ice_wait(void) {
+void faz_ice_wait(void) {
     nanosleep(&(struct timespec){.tv_nsec = 1000000}, NULL);
 }

@@ -2,13 +2,26 @@
 #include "inside.h"
 
 #include <sodium.h>
+#include <stdio.h>
 #include <string.h>
 
 /* Milliseconds: between two requests, and of a host that keeps its plate; without an answer; and until lines go without relays. */
 enum { ASKED_AGAIN = 1000, KEPT_AGAIN = 20000, NO_ANSWER = 3000, WITHOUT = 2000 };
 
+/* With a pass it is a part of this machine's inbox, where nobody but the door may say anything. */
+static void hear_door(faz_lobby *self) {
+    uint8_t inbox[INBOX];
+    randombytes_buf(inbox, INBOX);
+    if (broker_has_pass(self->broker))
+        snprintf(self->door.inbox_name, BROKER_SUBJECT, "%.*s.door", BROKER_SUBJECT - (int)sizeof ".door", self->inbox_name);
+    else
+        inbox_subject(inbox, self->door.inbox_name);
+    broker_hear(self->broker, DOOR_PLACE, self->door.inbox_name);
+}
+
 void asking_begin(faz_lobby *self, door_kind kind, bool takes_relays) {
     door_asking *asks = &self->door;
+    hear_door(self);
     asks->is_used = true;
     asks->takes_relays = takes_relays;
     asks->request.kind = kind;
@@ -36,7 +49,7 @@ static void say(faz_lobby *self) {
         asks->request.kind = DOOR_RELAYS;
     if (self->is_ready && asks->request.kind == DOOR_JOINS)
         asks->request.kind = DOOR_RELAYS;
-    if (!broker_say(self->broker, DOOR_SUBJECT, self->inbox_name, message, door_request_write(&asks->request, message)))
+    if (!broker_say(self->broker, DOOR_SUBJECT, asks->inbox_name, message, door_request_write(&asks->request, message)))
         return;
     if (!asks->has_said)
         asks->began_at = self->now;
@@ -63,7 +76,7 @@ void asking_turn(faz_lobby *self) {
 void asking_hear(faz_lobby *self, const broker_message *message) {
     door_asking *asks = &self->door;
     door_answer came;
-    if (!asks->is_used || !door_answer_read(&came, asks->open, asks->secret, message->bytes, message->length))
+    if (message->is_nobody || !door_answer_read(&came, asks->open, asks->secret, message->bytes, message->length))
         return;
     asks->is_answered = true;
     asks->is_away_told = false;

@@ -9,7 +9,7 @@
 #include <stdlib.h>
 #include <string.h>
 
-enum { SERVERS = 16, TEXT = 1024, HEARD = 3, KEPT = 256, KEPT_BYTES = 1 << 18 };
+enum { SERVERS = 16, TEXT = 4096, HEARD = 4, KEPT = 256, KEPT_BYTES = 1 << 18 };
 
 /* Milliseconds. */
 enum { PATIENCE = 2000, AGAIN = 1000, RECONNECT = 200, PING = 2000, FLUSH = 150, LAST = 200 };
@@ -21,6 +21,8 @@ enum { IPV4_FIRST = 46 };
 /* A connection that is being made, or closed. */
 typedef struct task {
     char servers[TEXT], trusted[TEXT];
+    char token[TOKEN_TEXT]; /* what it shows of its user; empty if the broker wants none */
+    nkey user;
     natsConnection *connection;
     char why[BROKER_WHY];
 } task;
@@ -50,9 +52,31 @@ static natsStatus set_servers(natsOptions *options, char *text) {
     return natsOptions_SetServers(options, servers, count);
 }
 
+/* Both are asked for while `make` waits, and libnats frees what they give. */
+static natsStatus give_token(char **token, char **why, void *of) {
+    const task *self = of;
+    (void)why;
+    *token = strdup(self->token);
+    return *token != NULL ? NATS_OK : NATS_NO_MEMORY;
+}
+
+static natsStatus sign_nonce(char **why, unsigned char **signature, int *length, const char *nonce, void *of) {
+    const task *self = of;
+    size_t size = nonce != NULL ? strlen(nonce) : 0;
+    (void)why;
+    *length = crypto_sign_BYTES;
+    *signature = malloc(crypto_sign_BYTES);
+    if (*signature == NULL)
+        return NATS_NO_MEMORY;
+    crypto_sign_detached(*signature, NULL, (const uint8_t *)nonce, size, self->user.secret);
+    return NATS_OK;
+}
+
 static natsStatus set_options(natsOptions *options, task *self) {
     char servers[TEXT];
     natsStatus status = set_servers(options, strcpy(servers, self->servers));
+    if (status == NATS_OK && self->token[0] != 0)
+        status = natsOptions_SetUserCredentialsCallbacks(options, give_token, self, sign_nonce, self);
     if (status == NATS_OK && strstr(self->servers, "tls://") != NULL)
         status = natsOptions_SetSecure(options, true);
     if (status == NATS_OK && self->trusted[0] != 0)
@@ -66,6 +90,14 @@ static natsStatus set_options(natsOptions *options, task *self) {
     return status;
 }
 
+static const char *why_not(const task *self, natsStatus status) {
+    const char *text = nats_GetLastError(NULL);
+    if (status == NATS_CONNECTION_AUTH_FAILED)
+        return self->token[0] != 0 ? "the broker doesn't take this pass"
+                                   : "the broker lets nobody in by this URL: it may want a pass in it";
+    return text != NULL && *text != 0 ? text : natsStatus_GetText(status);
+}
+
 static void make(void *of) {
     task *self = of;
     natsOptions *options = NULL;
@@ -75,17 +107,21 @@ static void make(void *of) {
     if (status == NATS_OK)
         status = natsConnection_Connect(&self->connection, options);
     if (status != NATS_OK) {
-        const char *text = nats_GetLastError(NULL);
-        snprintf(self->why, BROKER_WHY, "%s", text != NULL && *text != 0 ? text : natsStatus_GetText(status));
+        snprintf(self->why, BROKER_WHY, "%s", why_not(self, status));
         self->connection = NULL;
     }
     natsOptions_Destroy(options);
 }
 
+static void forget(task *self) {
+    sodium_memzero(self, sizeof *self);
+    free(self);
+}
+
 static void drop(void *of) {
     task *self = of;
     natsConnection_Destroy(self->connection);
-    free(self);
+    forget(self);
 }
 
 static void finish(void *of) {
@@ -111,6 +147,30 @@ static bool is_server(const char *text) {
     return strncmp(text, "nats://", 7) == 0 || strncmp(text, "tls://", 6) == 0;
 }
 
+/* Takes a server over, without what is before its @, unless that is a user's name and password: it is a pass, and the first one counts
+ * for all. False: it can't be read. */
+static bool take_server(task *to, const char *server) {
+    const char *scheme = strstr(server, "://"), *host = scheme != NULL ? scheme + 3 : server, *end = strrchr(host, '@');
+    bool has_pass = end != NULL && memchr(host, ':', (size_t)(end - host)) == NULL;
+    size_t length = strlen(to->servers);
+    pass by;
+    snprintf(to->servers + length, TEXT - length, "%s%.*s%s", length > 0 ? "," : "", (int)(host - server), server,
+             has_pass ? end + 1 : host);
+    if (has_pass && !pass_read(&by, host, (size_t)(end - host)))
+        return false;
+    if (has_pass && to->token[0] == 0)
+        pass_token(&by, &to->user, to->token);
+    return true;
+}
+
+static bool take_servers(task *to, const char *servers) {
+    char text[TEXT], *rest = NULL;
+    bool are_good = true;
+    for (char *at = strtok_r(strcpy(text, servers), ",", &rest); at != NULL; at = strtok_r(NULL, ",", &rest))
+        are_good = take_server(to, at) && are_good;
+    return are_good;
+}
+
 broker *broker_open(const char *servers, const char *trusted, const char **why) {
     if (servers == NULL || !is_server(servers) || strlen(servers) >= TEXT || (trusted != NULL && strlen(trusted) >= TEXT)) {
         *why = "the broker's address is none: nats://ADDRESS:PORT was expected";
@@ -122,10 +182,23 @@ broker *broker_open(const char *servers, const char *trusted, const char **why) 
         return NULL;
     }
     self->is_wanted = true;
-    strcpy(self->settings.servers, servers);
+    nkey_draw(&self->settings.user, NKEY_USER);
+    if (!take_servers(&self->settings, servers)) {
+        *why = "the pass in the broker's address can't be read: a sign of it may be wrong or missing";
+        broker_close(self);
+        return NULL;
+    }
     if (trusted != NULL)
         strcpy(self->settings.trusted, trusted);
     return self;
+}
+
+const uint8_t *broker_inbox(const broker *self) {
+    return self->settings.user.open;
+}
+
+bool broker_has_pass(const broker *self) {
+    return self->settings.token[0] != 0;
 }
 
 static void let_go(broker *self) {
@@ -142,8 +215,9 @@ void broker_close(broker *self) {
     let_go(self);
     aside *last = finish_aside(self->connection);
     for (int waited = 0; last != NULL && !aside_is_over(last) && waited < LAST; waited++)
-        ice_wait();
+        faz_ice_wait();
     aside_leave(last);
+    sodium_memzero(self, sizeof *self);
     free(self);
 }
 
@@ -161,14 +235,14 @@ static void begin(broker *self) {
     *self->made = self->settings;
     self->making = aside_begin(make, drop, self->made);
     if (self->making == NULL)
-        free(self->made);
+        forget(self->made);
 }
 
 /* A connection was made, or not. */
 static void take(broker *self) {
     natsConnection *connection = self->made->connection;
     memcpy(self->why, self->made->why, sizeof self->why);
-    free(self->made);
+    forget(self->made);
     aside_take(self->making);
     self->making = NULL;
     self->again_at = self->now + AGAIN;
@@ -255,6 +329,7 @@ bool broker_next(broker *self, broker_message *message) {
             *message = (broker_message){.is_nobody = true};
             is_one = true;
         }
+        message->place = at;
         if (is_one)
             return true;
     }

@@ -3,24 +3,29 @@
 #ifndef FAZ_LOBBY_BROKER_H
 #define FAZ_LOBBY_BROKER_H
 
-#include <stdbool.h>
-#include <stddef.h>
-#include <stdint.h>
+#include "pass.h"
 
 typedef struct broker broker;
 
 /* A message has less bytes than BROKER_MESSAGE; a subject with its 0 not more than BROKER_SUBJECT. */
-enum { BROKER_MESSAGE = 6144, BROKER_SUBJECT = 64, BROKER_WHY = 128 };
+enum { BROKER_MESSAGE = 6144, BROKER_SUBJECT = 72, BROKER_WHY = 128 };
 
 typedef struct broker_message {
+    int place;      /* at which it was heard */
     bool is_nobody; /* nobody hears what this machine asked for: there is nothing else in it */
     char reply[BROKER_SUBJECT];
     size_t length;
     uint8_t bytes[BROKER_MESSAGE];
 } broker_message;
 
-/* `servers` has a comma between each two; `trusted` is a file of certificates, or null. Null: why. */
+/* `servers` has a comma between each two, and a pass before the @ of one if the broker wants that (pass.h); `trusted` is a file of
+ * certificates, or null. Null: why. */
 broker *broker_open(const char *servers, const char *trusted, const char **why);
+
+/* The key of this machine's inbox, drawn for this broker alone: it stays the same when the connection is made anew. */
+const uint8_t *broker_inbox(const broker *self);
+
+bool broker_has_pass(const broker *self);
 
 /* What was said goes out before, in 0.2 seconds at most. Null is none. */
 void broker_close(broker *self);
@@ -34,7 +39,7 @@ const char *broker_why(const broker *self);
 /* This machine's addresses have changed: a new connection is made beside the one that there is. */
 void broker_renew(broker *self);
 
-/* Hears a subject from now on, in the place of the one that it heard there. There are three places. */
+/* Hears a subject from now on, in the place of the one that it heard there. There are four places. */
 void broker_hear(broker *self, int place, const char *subject);
 
 /* False: it isn't said. `reply` may be null; else who hears it may answer there, and if nobody hears it that is told. */

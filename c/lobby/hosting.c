@@ -93,9 +93,16 @@ static void place(faz_lobby *self, const uint8_t *open, const uint8_t *inbox, co
     to->machines++;
 }
 
-/* Machines are numbered by the places of their guests. */
+/* A machine, and a player of it, for whoever comes later. */
+static void place_vacant(table *to) {
+    to->member[to->machines].is_vacant = true;
+    to->owners[to->players++] = to->machines++;
+}
+
+/* Machines are numbered by the places of their guests, and those that are vacant come last. */
 static void lay_table(faz_lobby *self) {
     table *to = &self->table;
+    uint32_t vacant = self->hosting.stays_open ? seats_left(self) : 0;
     for (int at = 0; at < FAZGROND_PLAYERS; at++)
         to->owners[at] = FAZGROND_NO_PLAYER;
     randombytes_buf(&to->number, sizeof to->number);
@@ -113,6 +120,8 @@ static void lay_table(faz_lobby *self) {
         one->machine = to->machines;
         place(self, one->pair.theirs, one->inbox, one->name, one->here);
     }
+    for (; vacant > 0; vacant--)
+        place_vacant(to);
     mesh_open(self);
     for (int at = 0; at < GUESTS; at++)
         if (self->hosting.guest[at].stage == GUEST_SEATED)
@@ -125,7 +134,8 @@ static void look_at_seats(faz_lobby *self) {
 }
 
 bool faz_lobby_begin(faz_lobby *self) {
-    if (!self->is_host || self->is_known || self->is_over || seats_left(self) + self->here == self->hosting.players)
+    bool is_anybody_there = seats_left(self) + self->here < self->hosting.players;
+    if (!self->is_host || self->is_known || self->is_over || !(is_anybody_there || self->hosting.stays_open))
         return false;
     lay_table(self);
     return true;
@@ -160,14 +170,11 @@ size_t host_offer(const faz_lobby *self, const room *in, uint8_t out[BROKER_MESS
     return offer_write(&ours, in, out);
 }
 
-static void hear_hello(faz_lobby *self, const broker_message *message, const uint8_t inbox[INBOX]) {
+static void hear_hello(faz_lobby *self, const broker_message *message) {
     uint8_t out[BROKER_MESSAGE];
-    char subject[BROKER_SUBJECT];
     hello came;
-    if (self->hosting.has_short_code || !hello_read(&came, &self->room, message->bytes, message->length))
-        return;
-    inbox_subject(inbox, subject);
-    broker_say(self->broker, subject, NULL, out, host_offer(self, &self->room, out));
+    if (!self->hosting.has_short_code && hello_read(&came, &self->room, message->bytes, message->length))
+        broker_say(self->broker, message->reply, NULL, out, host_offer(self, &self->room, out));
 }
 
 /* By which room's key somebody asks, and whose key it names; null if by none. */
@@ -269,13 +276,14 @@ static void hear_ask(faz_lobby *self, const broker_message *message, const uint8
 
 void host_hear(faz_lobby *self, const broker_message *message) {
     uint8_t inbox[INBOX];
-    if (message->length == 0 || !inbox_read(message->reply, inbox))
+    bool is_of_now = inbox_read(message->reply, inbox);
+    if (message->length == 0 || (!is_of_now && !inbox_is_older(message->reply)))
         return;
     if (message->bytes[0] == KNOCK && self->hosting.has_short_code && (!self->is_ready || self->table.lasts))
-        knock_hear(self, message, inbox);
+        knock_hear(self, message);
     else if (message->bytes[0] == HELLO)
-        hear_hello(self, message, inbox);
-    else if (message->bytes[0] == ASK)
+        hear_hello(self, message);
+    else if (message->bytes[0] == ASK && is_of_now)
         hear_ask(self, message, inbox);
 }
 

@@ -44,7 +44,8 @@ typedef struct guest {
 /* Who knocks with a short code, and has shown that it knows it, or not yet. */
 typedef struct knocker {
     bool is_there, is_proven;
-    uint8_t id[INBOX];
+    uint8_t id[KNOCK_ID];
+    char subject[BROKER_SUBJECT]; /* of its inbox: nobody else is told what is said to it */
     pake *pake;
     uint8_t step;
     uint32_t begun_at;
@@ -58,7 +59,7 @@ enum { KNOCKERS = 8 };
 typedef struct hosting {
     uint8_t open[KEY], secret[SECRET];
     uint32_t players;
-    bool asks, has_short_code, has_worked; /* in this turn */
+    bool asks, stays_open, has_short_code, has_worked; /* in this turn */
     char plate[PLATE_TEXT], secret_signs[SHORT_SECRET];
     knocker knocker[KNOCKERS];
     uint32_t wrong; /* tries at this code */
@@ -70,7 +71,7 @@ typedef struct hosting {
 
 /* ---- Of who joins. */
 
-typedef enum joining_stage { ASKS_DOOR, KNOCKS, SAYS_HELLO, ASKS_TO_JOIN, HAS_TABLE } joining_stage;
+typedef enum joining_stage { NO_CODE, ASKS_DOOR, KNOCKS, SAYS_HELLO, ASKS_TO_JOIN, HAS_TABLE } joining_stage;
 
 typedef struct joining {
     joining_stage stage;
@@ -131,6 +132,7 @@ typedef struct servers {
 
 /* What the door is asked, and whether it has answered. */
 typedef struct door_asking {
+    char inbox_name[BROKER_SUBJECT]; /* where it answers */
     bool is_used, takes_relays, has_said, is_answered, is_away_told;
     uint32_t began_at, said_at, answered_at, seconds; /* relays are good for so many */
     uint8_t open[KEY], secret[KEY];
@@ -148,10 +150,12 @@ struct faz_lobby {
     uint64_t digest;
     uint32_t here;
 
+    bool has_door, wants_relays; /* of the door's */
+
     bool is_host, is_over, is_known, is_ready, has_turned, has_addresses, has_been_there,
         has_lines;
     bool is_away_told; /* that the broker is away */
-    uint32_t now, looked_at;
+    uint32_t now, looked_at, known_at; /* known_at: the match */
     uint64_t addresses;
     broker *broker;
     aside *looking; /* up names of servers, into */
@@ -199,6 +203,9 @@ void lobby_take_servers(faz_lobby *self, const door_answer *answer);
 
 /* ---- asking.c: the door */
 
+/* Where its answers are heard, among what the broker hears: so it is known that it is the door, and not a host, whom nobody hears. */
+enum { DOOR_PLACE = 3 };
+
 void asking_begin(faz_lobby *self, door_kind kind, bool takes_relays);
 void asking_turn(faz_lobby *self);
 void asking_hear(faz_lobby *self, const broker_message *message);
@@ -209,7 +216,7 @@ bool asking_is_over(const faz_lobby *self);
 
 void knock_begin(faz_lobby *self);
 void knock_plate(faz_lobby *self, const char plate[PLATE_TEXT]);
-void knock_hear(faz_lobby *self, const broker_message *message, const uint8_t inbox[INBOX]);
+void knock_hear(faz_lobby *self, const broker_message *message);
 void knock_turn(faz_lobby *self);
 void knock_close(faz_lobby *self);
 
@@ -245,6 +252,8 @@ bool late_let_in(faz_lobby *self, uint32_t who, bool yes);
 /* ---- mesh.c */
 
 bool mesh_has_line(const faz_lobby *self, uint32_t machine);
+/* Whether nobody has this place yet. */
+bool mesh_is_vacant(const faz_lobby *self, uint32_t machine);
 /* There is somebody else in a place: the line to it is another one. */
 void mesh_replace(faz_lobby *self, uint32_t place, const member *who);
 

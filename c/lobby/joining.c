@@ -90,7 +90,7 @@ static bool begin_to_knock(faz_lobby *self) {
         return false;
     joins->stage = KNOCKS;
     joins->knock.step = 1;
-    randombytes_buf(joins->knock.id, INBOX);
+    randombytes_buf(joins->knock.id, KNOCK_ID);
     joins->heard_at = self->now;
     return pake_turn(joins->pake, NULL, 0, joins->knock.bytes, &joins->knock.length) == PAKE_MORE;
 }
@@ -129,7 +129,7 @@ static void hear_knocked(faz_lobby *self, const broker_message *message) {
     knock came;
     size_t more;
     if (joins->stage != KNOCKS || !knock_read(&came, KNOCKED, message->bytes, message->length, &more)
-        || memcmp(came.id, joins->knock.id, INBOX) != 0 || came.step != joins->knock.step)
+        || memcmp(came.id, joins->knock.id, KNOCK_ID) != 0 || came.step != joins->knock.step)
         return;
     pake_answer now = came.is_wrong ? PAKE_WRONG
                                     : pake_turn(joins->pake, came.bytes, came.length, joins->knock.bytes, &joins->knock.length);
@@ -211,7 +211,8 @@ static void give_up(faz_lobby *self) {
     if (!broker_is_there(self->broker) || !joins->has_said)
         joins->heard_at = self->now;
     if (joins->stage < ASKS_TO_JOIN && lobby_since(self, joins->heard_at) >= NEVER_ANSWERED)
-        lobby_end(self, FAZ_LOBBY_NO_SUCH_CODE, "nobody who hosts a match with this code answers");
+        lobby_end(self, FAZ_LOBBY_NO_SUCH_CODE,
+                  "nobody who hosts a match with this code answers: the host is gone, or its game has an older version of this library");
     else if (lobby_since(self, joins->heard_at) >= GONE_AFTER)
         lobby_end(self, FAZ_LOBBY_HOST_LEFT, REASONS[FAZ_LOBBY_HOST_LEFT]);
 }
@@ -219,6 +220,7 @@ static void give_up(faz_lobby *self) {
 void join_turn(faz_lobby *self) {
     bool is_to_say = broker_is_there(self->broker) && is_due(self);
     switch (self->joining.stage) {
+    case NO_CODE:
     case ASKS_DOOR:
     case HAS_TABLE: return;
     case KNOCKS: if (is_to_say) say_knock(self); break;

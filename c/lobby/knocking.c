@@ -59,7 +59,7 @@ static knocker *knocker_of(faz_lobby *self, const knock *came) {
     knocker *free = NULL;
     for (int at = 0; at < KNOCKERS; at++) {
         knocker *one = &self->hosting.knocker[at];
-        if (one->is_there && memcmp(one->id, came->id, INBOX) == 0)
+        if (one->is_there && memcmp(one->id, came->id, KNOCK_ID) == 0)
             return one;
         if (!one->is_there)
             free = one;
@@ -67,11 +67,12 @@ static knocker *knocker_of(faz_lobby *self, const knock *came) {
     return came->step == 1 ? free : NULL;
 }
 
-static bool begin(faz_lobby *self, knocker *one, const knock *came) {
+static bool begin(faz_lobby *self, knocker *one, const knock *came, const char *subject) {
     one->pake = pake_open(true, self->hosting.plate, self->hosting.secret_signs);
     one->is_there = one->pake != NULL;
     one->begun_at = self->now;
-    memcpy(one->id, came->id, INBOX);
+    memcpy(one->id, came->id, KNOCK_ID);
+    strcpy(one->subject, subject);
     return one->is_there;
 }
 
@@ -88,9 +89,9 @@ static size_t prove(faz_lobby *self, knocker *one, size_t length) {
     return length + more;
 }
 
-static void reply(faz_lobby *self, knocker *one, const knock *came, const char *subject) {
+static void reply(faz_lobby *self, knocker *one, const knock *came) {
     knock text = {.step = came->step};
-    memcpy(text.id, one->id, INBOX);
+    memcpy(text.id, one->id, KNOCK_ID);
     pake_answer now = pake_turn(one->pake, came->bytes, came->length, text.bytes, &text.length);
     self->hosting.has_worked = true;
     text.is_wrong = now == PAKE_WRONG;
@@ -98,30 +99,28 @@ static void reply(faz_lobby *self, knocker *one, const knock *came, const char *
     one->length = knock_write(&text, KNOCKED, one->said);
     if (now == PAKE_DONE)
         one->length = prove(self, one, one->length);
-    broker_say(self->broker, subject, NULL, one->said, one->length);
+    broker_say(self->broker, one->subject, NULL, one->said, one->length);
     if (now != PAKE_WRONG)
         return;
     drop(one);
     note_wrong(self);
 }
 
-void knock_hear(faz_lobby *self, const broker_message *message, const uint8_t inbox[INBOX]) {
+void knock_hear(faz_lobby *self, const broker_message *message) {
     knock came;
     size_t more;
-    char subject[BROKER_SUBJECT];
     if (self->hosting.plate[0] == 0 || !knock_read(&came, KNOCK, message->bytes, message->length, &more))
         return;
     knocker *one = knocker_of(self, &came);
     bool is_said = one != NULL && one->is_there && came.step == one->step;
     if (self->hosting.has_worked && !is_said)
         return; /* a proof takes some milliseconds, so there is one in a turn: others ask again */
-    if (one == NULL || (!one->is_there && !begin(self, one, &came)))
+    if (one == NULL || (!one->is_there && !begin(self, one, &came, message->reply)) || strcmp(one->subject, message->reply) != 0)
         return;
-    inbox_subject(inbox, subject);
     if (is_said)
-        broker_say(self->broker, subject, NULL, one->said, one->length);
+        broker_say(self->broker, one->subject, NULL, one->said, one->length);
     else if (came.step == one->step + 1 && !one->is_proven)
-        reply(self, one, &came, subject);
+        reply(self, one, &came);
 }
 
 /* Who doesn't show that it knows the code has had its try. */

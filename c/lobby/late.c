@@ -1,13 +1,14 @@
-/* Who comes into a match that runs: the machine with the lowest number that is there answers, gives it the place of one that is
- * silent, and tells the others. */
+/* Who comes into a match that runs: the machine with the lowest number that is there answers, gives it a place that is vacant or the one
+ * of a machine that is silent, and tells the others. */
 #include "inside.h"
 
 #include <sodium.h>
 #include <string.h>
 
-/* Milliseconds for which a machine has to be silent, before its own player is back and before somebody else comes; between two
- * answers and two times that the others are told, and for how long; and without anything of who comes. */
-enum { BACK_AFTER = 1500, OTHER_AFTER = 5000, TOLD_AGAIN = 500, TOLD_FOR = 10000, GONE_AFTER = 10000 };
+/* Milliseconds for which a machine has to be silent, before it may be that its player was begun anew, before that is back, and before
+ * somebody else comes; between two answers and two times that the others are told, and for how long; and without anything of who
+ * comes. */
+enum { STOPPED_AFTER = 300, BACK_AFTER = 1500, OTHER_AFTER = 5000, TOLD_AGAIN = 500, TOLD_FOR = 10000, GONE_AFTER = 10000 };
 
 void late_begin(faz_lobby *self) {
     char subject[BROKER_SUBJECT];
@@ -33,17 +34,32 @@ static uint32_t players_of(const table *self, uint32_t machine) {
     return players;
 }
 
-/* The place of a machine that is gone, and has as many players. */
+/* How well a place is for somebody, the best last. */
+typedef enum fit { TAKEN, SILENT, VACANT, MAYBE_OWN, OWN } fit;
+
+static fit fit_of(const faz_lobby *self, const comer *one, uint32_t machine) {
+    if (players_of(&self->table, machine) != one->here)
+        return TAKEN;
+    if (!mesh_has_line(self, machine))
+        return mesh_is_vacant(self, machine) ? VACANT : TAKEN;
+    uint32_t silence = silence_of(self, machine);
+    if (strcmp(self->table.member[machine].name, one->name) == 0)
+        return silence >= BACK_AFTER ? OWN : silence >= STOPPED_AFTER ? MAYBE_OWN : TAKEN;
+    return silence >= OTHER_AFTER ? SILENT : TAKEN;
+}
+
+/* The best place for somebody; FAZGROND_NO_MACHINE if there is none now. */
 static uint32_t place_for(const faz_lobby *self, const comer *one) {
     uint32_t found = FAZGROND_NO_MACHINE;
+    fit best = TAKEN;
     for (uint32_t machine = 0; machine < self->table.machines; machine++) {
-        if (!mesh_has_line(self, machine) || players_of(&self->table, machine) != one->here)
-            continue;
-        bool is_back = strcmp(self->table.member[machine].name, one->name) == 0;
-        if (silence_of(self, machine) >= (is_back ? BACK_AFTER : OTHER_AFTER) && (found == FAZGROND_NO_MACHINE || is_back))
+        fit now = fit_of(self, one, machine);
+        if (now > best) {
+            best = now;
             found = machine;
+        }
     }
-    return found;
+    return best == MAYBE_OWN ? FAZGROND_NO_MACHINE : found;
 }
 
 /* Whether this machine answers: those before it don't hear who comes, or aren't there. */
@@ -181,9 +197,8 @@ static void hear_ask(faz_lobby *self, const broker_message *message, const uint8
         tell(self, one);
 }
 
-static void hear_hello(faz_lobby *self, const broker_message *message, const uint8_t inbox[INBOX]) {
+static void hear_hello(faz_lobby *self, const broker_message *message) {
     uint8_t out[BROKER_MESSAGE];
-    char subject[BROKER_SUBJECT];
     hello came;
     offer ours = {.version = LOBBY_VERSION};
     if (!answers(self) || !hello_read(&came, &self->later, message->bytes, message->length))
@@ -192,8 +207,7 @@ static void hear_hello(faz_lobby *self, const broker_message *message, const uin
     memcpy(ours.speaks, self->keys.open, KEY);
     memcpy(ours.proof, self->table.proof, PROOF);
     memcpy(ours.inbox, self->inbox, INBOX);
-    inbox_subject(inbox, subject);
-    broker_say(self->broker, subject, NULL, out, offer_write(&ours, &self->later, out));
+    broker_say(self->broker, message->reply, NULL, out, offer_write(&ours, &self->later, out));
 }
 
 /* A guest of the host's, who asks again for the table, is the host's. */
@@ -206,12 +220,15 @@ static bool is_guest(const faz_lobby *self, const uint8_t open[KEY]) {
 
 bool late_hear(faz_lobby *self, const broker_message *message) {
     uint8_t inbox[INBOX], open[KEY];
-    if (!self->is_known || !self->table.lasts || message->is_nobody || message->length == 0 || !inbox_read(message->reply, inbox))
+    if (!self->is_known || !self->table.lasts || message->is_nobody || message->length == 0)
         return false;
-    if (message->bytes[0] == HELLO) {
-        hear_hello(self, message, inbox);
+    bool is_of_now = inbox_read(message->reply, inbox);
+    if (message->bytes[0] == HELLO && (is_of_now || inbox_is_older(message->reply))) {
+        hear_hello(self, message);
         return true;
     }
+    if (!is_of_now)
+        return false;
     const room *in = message->bytes[0] == ASK ? room_of_ask(self, open, message) : NULL;
     if (in == NULL || (self->is_host && is_guest(self, open)))
         return false;

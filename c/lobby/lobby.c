@@ -66,6 +66,8 @@ static const char *take_settings(faz_lobby *self, const faz_lobby_settings *sett
     self->here = settings->here != 0 ? settings->here : 1;
     self->digest = settings->digest;
     self->lasts = settings->lasts;
+    self->has_door = settings->has_door;
+    self->wants_relays = settings->stun == NULL && settings->relay_count == 0;
     name_clean(self->name, settings->name != NULL && *settings->name != 0 ? settings->name : "a player");
     if (self->here > FAZGROND_PLAYERS)
         return "there are more players at this machine than a match has";
@@ -74,7 +76,7 @@ static const char *take_settings(faz_lobby *self, const faz_lobby_settings *sett
     return lobby_copy_servers(self, settings);
 }
 
-static faz_lobby *open(const faz_lobby_settings *settings, const char **why) {
+faz_lobby *faz_lobby_open(const faz_lobby_settings *settings, const char **why) {
     faz_lobby *self = calloc(1, sizeof *self);
     *why = self == NULL ? "there is no memory" : take_settings(self, settings);
     if (*why == NULL)
@@ -83,10 +85,10 @@ static faz_lobby *open(const faz_lobby_settings *settings, const char **why) {
         faz_lobby_close(self);
         return NULL;
     }
-    randombytes_buf(self->inbox, INBOX);
+    memcpy(self->inbox, broker_inbox(self->broker), INBOX);
     inbox_subject(self->inbox, self->inbox_name);
     broker_hear(self->broker, 0, self->inbox_name);
-    self->addresses = ice_addresses();
+    self->addresses = faz_ice_addresses();
     return self;
 }
 
@@ -101,6 +103,9 @@ static const char *take_match(faz_lobby *self, const faz_lobby_settings *setting
         return "a match has 2 to 8 players, and some of them elsewhere";
     if (settings->common_length > FAZ_LOBBY_COMMON || (settings->common_length > 0 && settings->common == NULL))
         return "what is handed to all is too long";
+    if (settings->stays_open && !settings->lasts)
+        return "seats stay open in a match that lasts";
+    self->hosting.stays_open = settings->stays_open;
     self->hosting.players = settings->players;
     self->hosting.asks = settings->asks || settings->short_code;
     self->hosting.has_short_code = settings->short_code;
@@ -124,13 +129,8 @@ static void tell_code(faz_lobby *self) {
     code_write(code, lobby_tell(self, FAZ_LOBBY_CODE, 0, self->name)->text);
 }
 
-/* Whether the door's relays are wanted. */
-static bool wants_relays(const faz_lobby_settings *settings) {
-    return settings->stun == NULL && settings->relay_count == 0;
-}
-
 faz_lobby *faz_lobby_host(const faz_lobby_settings *settings, const char **why) {
-    faz_lobby *self = open(settings, why);
+    faz_lobby *self = faz_lobby_open(settings, why);
     if (self == NULL)
         return NULL;
     *why = take_match(self, settings);
@@ -141,7 +141,7 @@ faz_lobby *faz_lobby_host(const faz_lobby_settings *settings, const char **why) 
     self->is_host = true;
     host_draw(self->hosting.open, self->hosting.secret);
     if (settings->short_code || settings->has_door)
-        asking_begin(self, settings->short_code ? DOOR_HOSTS : DOOR_RELAYS, wants_relays(settings));
+        asking_begin(self, settings->short_code ? DOOR_HOSTS : DOOR_RELAYS, self->wants_relays);
     if (settings->short_code)
         knock_begin(self);
     else
@@ -150,7 +150,7 @@ faz_lobby *faz_lobby_host(const faz_lobby_settings *settings, const char **why) 
 }
 
 /* Takes a code, long or short. False: it is none. */
-static bool take_code(faz_lobby *self, const faz_lobby_settings *settings, const char *code) {
+static bool take_code(faz_lobby *self, const char *code) {
     joining *joins = &self->joining;
     if (code == NULL)
         return false;
@@ -158,8 +158,9 @@ static bool take_code(faz_lobby *self, const faz_lobby_settings *settings, const
     if (!joins->has_short_code && !code_read(code, joins->code))
         return false;
     joins->stage = joins->has_short_code ? ASKS_DOOR : SAYS_HELLO;
-    if (joins->has_short_code || settings->has_door)
-        asking_begin(self, joins->has_short_code ? DOOR_JOINS : DOOR_RELAYS, wants_relays(settings));
+    joins->heard_at = self->now;
+    if (joins->has_short_code || self->has_door)
+        asking_begin(self, joins->has_short_code ? DOOR_JOINS : DOOR_RELAYS, self->wants_relays);
     if (joins->has_short_code)
         lobby_copy(self->door.request.plate, sizeof self->door.request.plate, joins->plate);
     else
@@ -167,11 +168,15 @@ static bool take_code(faz_lobby *self, const faz_lobby_settings *settings, const
     return true;
 }
 
+bool faz_lobby_enter(faz_lobby *self, const char *code) {
+    return !self->is_host && self->joining.stage == NO_CODE && take_code(self, code);
+}
+
 faz_lobby *faz_lobby_join(const faz_lobby_settings *settings, const char *code, const char **why) {
-    faz_lobby *self = open(settings, why);
+    faz_lobby *self = faz_lobby_open(settings, why);
     if (self == NULL)
         return NULL;
-    if (!take_code(self, settings, code)) {
+    if (!faz_lobby_enter(self, code)) {
         *why = "this is no code: a sign of it may be wrong or missing";
         faz_lobby_close(self);
         return NULL;
@@ -199,12 +204,12 @@ void faz_lobby_close(faz_lobby *self) {
 
 static void hear(faz_lobby *self, const broker_message *message) {
     bool is_of_mesh = !message->is_nobody && message->length > 0 && (message->bytes[0] == SIGNAL || message->bytes[0] == NEWS);
-    if (is_of_mesh)
+    if (message->place == DOOR_PLACE)
+        asking_hear(self, message);
+    else if (is_of_mesh)
         mesh_hear(self, message);
     else if (late_hear(self, message))
         return;
-    else if (!message->is_nobody && message->length > 0 && message->bytes[0] == DOOR_ANSWER)
-        asking_hear(self, message);
     else if (self->is_host && !message->is_nobody)
         host_hear(self, message);
     else if (!self->is_host)
@@ -236,7 +241,7 @@ static void look_at_broker(faz_lobby *self) {
 static void look_at_addresses(faz_lobby *self) {
     if (lobby_since(self, self->looked_at) < LOOKED)
         return;
-    uint64_t addresses = ice_addresses();
+    uint64_t addresses = faz_ice_addresses();
     if (addresses != self->addresses)
         broker_renew(self->broker);
     self->addresses = addresses;
@@ -294,6 +299,7 @@ bool faz_lobby_get_match(const faz_lobby *self, faz_lobby_match *match) {
     for (uint32_t at = 0; at < match->machines; at++) {
         strcpy(match->names[at], self->table.member[at].name);
         match->tickets[at] = ticket_of(&self->table, at);
+        match->vacant |= mesh_is_vacant(self, at) ? 1u << at : 0;
         match->numbers[at] = self->other[at].line != NULL ? faz_line_number(self->other[at].line) : 0;
     }
     return true;
@@ -307,6 +313,9 @@ bool faz_lobby_get_peer(const faz_lobby *self, fazgrond_match *match) {
     match->silent_after = SILENT_AFTER;
     for (uint32_t at = 0; at < self->table.machines; at++)
         match->numbers[at] = self->other[at].line != NULL ? faz_line_number(self->other[at].line) : 0;
-    memcpy(match->owners, self->table.owners, sizeof match->owners);
+    for (uint32_t player = 0; player < FAZGROND_PLAYERS; player++) {
+        uint32_t owner = self->table.owners[player];
+        match->owners[player] = mesh_is_vacant(self, owner) ? FAZGROND_NOBODY : owner;
+    }
     return true;
 }

@@ -12,12 +12,19 @@ enum { NOT_HEARD = 1000 };
 /* So many of them lines have to be closed. */
 enum { LAST = 300 };
 
+/* For so many of them who comes into a match that runs waits for the lines of others, once one is up: they may be gone. */
+enum { WAITED_FOR = 2000 };
+
 static bool is_other(const faz_lobby *self, uint32_t machine) {
     return self->is_known && machine < self->table.machines && machine != self->table.me;
 }
 
 bool mesh_has_line(const faz_lobby *self, uint32_t machine) {
     return is_other(self, machine) && self->other[machine].line != NULL;
+}
+
+bool mesh_is_vacant(const faz_lobby *self, uint32_t machine) {
+    return is_other(self, machine) && self->table.member[machine].is_vacant;
 }
 
 /* ---- opening */
@@ -53,6 +60,7 @@ static void hear_early(faz_lobby *self) {
 
 void mesh_open(faz_lobby *self) {
     self->is_known = true;
+    self->known_at = self->now;
     memcpy(self->mesh.key, self->table.key, KEY);
     self->heard = self->table.me;
     lobby_tell(self, FAZ_LOBBY_FULL, self->table.me, "");
@@ -61,7 +69,7 @@ void mesh_open(faz_lobby *self) {
 
 static void open_lines(faz_lobby *self) {
     for (uint32_t machine = 0; machine < self->table.machines; machine++)
-        if (is_other(self, machine) && !open_line(self, machine)) {
+        if (is_other(self, machine) && !mesh_is_vacant(self, machine) && !open_line(self, machine)) {
             lobby_end(self, FAZ_LOBBY_SYSTEM, "a line can't be opened: there is no memory, or no socket, or a machine has no key");
             return;
         }
@@ -108,7 +116,7 @@ void mesh_close(faz_lobby *self) {
     for (int at = 0; at < FAZGROND_MACHINES; at++)
         jobs[at] = close_aside(self->other[at].line);
     for (int waited = 0; !are_over(jobs) && waited < LAST; waited++)
-        ice_wait();
+        faz_ice_wait();
     for (int at = 0; at < FAZGROND_MACHINES; at++)
         aside_leave(jobs[at]);
 }
@@ -123,15 +131,20 @@ static void keep_early(faz_lobby *self, const broker_message *message) {
     memcpy(to->bytes, message->bytes, message->length);
 }
 
-/* Another machine says who is in a place now. It is believed of a machine that this one doesn't hear. */
+/* Whether nobody has a place, or this machine doesn't hear who does. */
+static bool is_silent(const faz_lobby *self, uint32_t place) {
+    faz_line_state state;
+    if (!mesh_has_line(self, place))
+        return mesh_is_vacant(self, place);
+    faz_line_look(self->other[place].line, &state);
+    return state.silence >= NOT_HEARD;
+}
+
+/* Another machine says who is in a place now. */
 static void hear_news(faz_lobby *self, uint32_t from, const broker_message *message) {
     news came;
-    faz_line_state state;
     if (!self->table.lasts || !news_read(&came, &self->other[from].pair, message->bytes, message->length)
-        || came.counter <= self->other[from].news || came.place == from || !mesh_has_line(self, came.place))
-        return;
-    faz_line_look(self->other[came.place].line, &state);
-    if (state.silence < NOT_HEARD)
+        || came.counter <= self->other[from].news || came.place == from || !is_silent(self, came.place))
         return;
     self->other[from].news = came.counter;
     mesh_replace(self, came.place, &came.who);
@@ -174,11 +187,6 @@ static void note_stage(faz_lobby *self, uint32_t machine) {
     strcpy(lobby_tell(self, what, machine, self->table.member[machine].name)->text, WAYS[state.way]);
 }
 
-/* Who comes into a match that runs isn't kept out by a machine that is gone. */
-static bool is_given_up(const faz_lobby *self, uint32_t machine) {
-    return self->table.is_late && self->other[machine].seen == FAZ_LINE_BLOCKED;
-}
-
 void mesh_turn(faz_lobby *self) {
     bool are_up = true, is_any_up = false;
     if (!self->is_known || !lobby_has_addresses(self))
@@ -191,10 +199,11 @@ void mesh_turn(faz_lobby *self) {
         faz_line_turn(self->other[machine].line, self->now);
         tell_signals(self, &self->other[machine]);
         note_stage(self, machine);
-        are_up = are_up && (self->other[machine].was_up || is_given_up(self, machine));
+        are_up = are_up && self->other[machine].was_up;
         is_any_up = is_any_up || self->other[machine].was_up;
     }
-    self->is_ready = self->is_ready || (self->has_lines && are_up && is_any_up);
+    bool is_enough = is_any_up && self->table.is_late && lobby_since(self, self->known_at) >= WAITED_FOR;
+    self->is_ready = self->is_ready || (self->has_lines && (are_up || is_enough));
 }
 
 /* ---- what the game sends and receives */

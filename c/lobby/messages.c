@@ -33,22 +33,28 @@ void name_clean(char out[FAZ_LOBBY_NAME_ROOM], const char *name) {
 static const char ROOMS[] = "faz.meet.", INBOXES[] = "faz.in.";
 
 void inbox_subject(const uint8_t inbox[INBOX], char out[BROKER_SUBJECT]) {
-    char digits[2 * INBOX + 1];
-    snprintf(out, BROKER_SUBJECT, "%s%s", INBOXES, sodium_bin2hex(digits, sizeof digits, inbox, INBOX));
+    char key[NKEY_TEXT];
+    nkey_write(NKEY_USER, inbox, key);
+    snprintf(out, BROKER_SUBJECT, "%s%s", INBOXES, key);
 }
 
 void room_subject(const room *self, char out[BROKER_SUBJECT]) {
     snprintf(out, BROKER_SUBJECT, "%s%s", ROOMS, self->name);
 }
 
+/* What is behind the front of all inboxes; null if that isn't there. */
+static const char *inbox_name(const char *subject) {
+    return strncmp(subject, INBOXES, strlen(INBOXES)) == 0 ? subject + strlen(INBOXES) : NULL;
+}
+
 bool inbox_read(const char *subject, uint8_t inbox[INBOX]) {
-    size_t front = strlen(INBOXES), size = 0;
-    char again[BROKER_SUBJECT];
-    if (strncmp(subject, INBOXES, front) != 0
-        || sodium_hex2bin(inbox, INBOX, subject + front, strlen(subject + front), NULL, &size, NULL) != 0 || size != INBOX)
-        return false;
-    inbox_subject(inbox, again);
-    return strcmp(subject, again) == 0;
+    const char *name = inbox_name(subject);
+    return name != NULL && nkey_read(NKEY_USER, name, strlen(name), inbox);
+}
+
+bool inbox_is_older(const char *subject) {
+    const char *name = inbox_name(subject);
+    return name != NULL && strlen(name) == 32 && strspn(name, "0123456789abcdef") == 32;
 }
 
 /* ---- what gets a key by a short code */
@@ -56,7 +62,7 @@ bool inbox_read(const char *subject, uint8_t inbox[INBOX]) {
 size_t knock_write(const knock *self, message_kind kind, uint8_t out[BROKER_MESSAGE]) {
     cursor to = {out, BROKER_MESSAGE - 1, true};
     cursor_put_number(&to, kind, 1);
-    cursor_put(&to, self->id, INBOX);
+    cursor_put(&to, self->id, KNOCK_ID);
     cursor_put_number(&to, self->step, 1);
     cursor_put_number(&to, self->is_wrong, 1);
     cursor_put_number(&to, self->length, 2);
@@ -70,7 +76,7 @@ bool knock_read(knock *self, message_kind kind, const uint8_t *bytes, size_t len
         return false;
     memcpy(copy, bytes + 1, length - 1);
     cursor from = {copy, length - 1, true};
-    cursor_get(&from, self->id, INBOX);
+    cursor_get(&from, self->id, KNOCK_ID);
     self->step = (uint8_t)cursor_get_number(&from, 1);
     self->is_wrong = cursor_get_number(&from, 1) != 0;
     self->length = cursor_get_number(&from, 2);
@@ -186,6 +192,7 @@ static void get_member(cursor *from, member *self) {
     cursor_get(from, self->open, KEY);
     cursor_get(from, self->inbox, INBOX);
     get_name(from, self->name);
+    self->is_vacant = sodium_is_zero(self->open, KEY);
 }
 
 static void put_table(cursor *to, const table *self) {
@@ -232,8 +239,10 @@ static void get_table(cursor *from, table *self) {
     cursor_get(from, self->host, KEY);
     cursor_get(from, self->proof, PROOF);
     from->is_good = from->is_good && has_owners(self);
-    for (uint32_t at = 0; at < self->machines && from->is_good; at++)
+    for (uint32_t at = 0; at < self->machines && from->is_good; at++) {
         get_member(from, &self->member[at]);
+        from->is_good = from->is_good && (self->lasts || !self->member[at].is_vacant);
+    }
     self->common_length = cursor_get_number(from, 2);
     from->is_good = from->is_good && self->common_length <= FAZ_LOBBY_COMMON;
     cursor_get(from, self->common, from->is_good ? self->common_length : 0);
@@ -291,7 +300,7 @@ bool news_read(news *self, const pair *between, const uint8_t *bytes, size_t len
     self->counter = (uint32_t)cursor_get_number(&from, 4);
     self->place = (uint32_t)cursor_get_number(&from, 1);
     get_member(&from, &self->who);
-    return from.is_good;
+    return from.is_good && !self->who.is_vacant;
 }
 
 /* ---- signals of lines */

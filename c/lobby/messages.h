@@ -10,8 +10,9 @@
 #include "pake.h"
 
 enum {
-    LOBBY_VERSION = 1,
-    INBOX = 16,     /* bytes of an inbox's name */
+    LOBBY_VERSION = 2,
+    INBOX = NKEY,   /* bytes of an inbox: the key of the user who hears it (pass.h) */
+    KNOCK_ID = 16,
     SIGNAL_HEAD = 2 /* bytes before what is sealed of a signal: its kind, and the machine it is of */
 };
 
@@ -33,9 +34,9 @@ typedef enum message_kind {
 
 /* With a short code who joins and the host get a key by it first, in two messages of each (pake.h). */
 typedef struct knock {
-    uint8_t id[INBOX]; /* of the one who knocks */
-    uint8_t step;      /* 1 or 2 */
-    bool is_wrong;     /* the host's: the code is */
+    uint8_t id[KNOCK_ID]; /* of the one who knocks */
+    uint8_t step;         /* 1 or 2 */
+    bool is_wrong;        /* the host's: the code is */
     size_t length;
     uint8_t bytes[PAKE_BYTES];
 } knock;
@@ -63,6 +64,7 @@ typedef struct ask {
 } ask;
 
 typedef struct member {
+    bool is_vacant; /* nobody has the place yet: its key is zeros */
     uint8_t open[KEY], inbox[INBOX];
     char name[FAZ_LOBBY_NAME_ROOM];
 } member;
@@ -127,6 +129,9 @@ void room_subject(const room *self, char out[BROKER_SUBJECT]);
 
 /* False: it is no inbox's. */
 bool inbox_read(const char *subject, uint8_t inbox[INBOX]);
+
+/* Whether it is one of version 1, which were 32 digits: who hears it is answered, and so told that the version is another one. */
+bool inbox_is_older(const char *subject);
 
 /* Takes a name over, without what isn't printed. */
 void name_clean(char out[FAZ_LOBBY_NAME_ROOM], const char *name);

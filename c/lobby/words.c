@@ -56,7 +56,7 @@ static bool read_relay(const char *said, char *text, bool by_tcp, faz_lobby_sett
     return split(at + 1, &relay->address, &relay->port);
 }
 
-const char *lobby_words_read(lobby_words *words, faz_lobby_settings *settings) {
+const char *faz_lobby_words_read(lobby_words *words, faz_lobby_settings *settings) {
     if (words->broker == NULL)
         return "--broker URL is missing";
     settings->broker = words->broker;
@@ -65,6 +65,7 @@ const char *lobby_words_read(lobby_words *words, faz_lobby_settings *settings) {
     settings->relay_only = words->relay_only;
     settings->asks = words->asks;
     settings->lasts = words->lasts;
+    settings->stays_open = words->begin_with > 0;
     settings->has_door = settings->short_code = words->by_door;
     if (words->stun != NULL
         && (!copied(words->texts[0], words->stun) || !split(words->texts[0], &settings->stun, &settings->stun_port)))
@@ -76,7 +77,7 @@ const char *lobby_words_read(lobby_words *words, faz_lobby_settings *settings) {
     return NULL;
 }
 
-void lobby_words_of(const faz_lobby_event *event, char *out, size_t room) {
+void faz_lobby_words_of(const faz_lobby_event *event, char *out, size_t room) {
     const char *name = event->name, *text = event->text;
     *out = 0;
     switch (event->what) {

@@ -1,4 +1,5 @@
-/* What a command line says of a lobby, and what a lobby tells, in words: for programs that a player begins at a terminal. */
+/* What a command line says of a lobby, and what a lobby tells, in words: for programs that a player begins at a terminal. They find these
+ * calls in the archive of lobbies, which shows nothing without its prefix. */
 #ifndef FAZ_LOBBY_WORDS_H
 #define FAZ_LOBBY_WORDS_H
 
@@ -18,16 +19,26 @@ typedef struct lobby_words {
     bool asks;             /* --ask */
     bool lasts;            /* --rejoin, or what the program calls it */
     bool by_door;          /* --door: short codes, and relays if none are named */
+    long begin_with;       /* --begin-with N: the host's match begins once N machines are there, and the other seats stay open; 0: once all
+                            * are */
+    long friends;          /* so many are in the lobby */
     char texts[3][LOBBY_WORDS_ROOM]; /* what settings point at */
 } lobby_words;
 
 /* Settings of what was said, as long as `words` is there. Null, or what can't be read. */
-const char *lobby_words_read(lobby_words *words, faz_lobby_settings *settings);
+const char *faz_lobby_words_read(lobby_words *words, faz_lobby_settings *settings);
+
+/* Of each event: the host's match begins, if that is what --begin-with waits for. */
+void faz_lobby_words_begin(lobby_words *words, faz_lobby *lobby, const faz_lobby_event *event);
+
+/* Enters the code that the player has typed at the terminal, if there is one. True: it is entered, and false if it is none yet, which is
+ * said. */
+bool faz_lobby_words_enter(faz_lobby *lobby);
 
 /* Lets in who waits for this player's answer, or not, if the player has written y or n at the terminal. Who still waits; 0:
  * nobody. */
-uint32_t lobby_words_let_in(faz_lobby *lobby, uint32_t who);
+uint32_t faz_lobby_words_let_in(faz_lobby *lobby, uint32_t who);
 
 /* An event in words; an empty text if a player needs none. */
-void lobby_words_of(const faz_lobby_event *event, char *out, size_t room);
+void faz_lobby_words_of(const faz_lobby_event *event, char *out, size_t room);
 #endif

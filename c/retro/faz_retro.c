@@ -8,6 +8,7 @@
 
 #include "../duel/options.h"
 
+#include <inttypes.h>
 #include <stdio.h>
 #include <unistd.h>
 
@@ -41,6 +42,7 @@ static const char usage[] =
     "                   check found it right; without helpers 0)\n"
     "  --rejoin         who has left comes back with the same words; all say it, also who watches, and who joins names its --port\n"
     "                   with a code there is no --port, and who has left comes back by --join and the code that is told last\n"
+    "  --begin-with N   with a code and --rejoin, at the host: the match begins once N machines are there, and others come in later\n"
     "  --port N         the port of who joins or watches (any)\n"
     "  --timeout MS     a machine that is silent so long is gone (5000)\n"
     "  --headless       no window; --bot SEED plays by itself; --frames N ends then; --digests FILE has those of all frames\n"
@@ -92,7 +94,7 @@ static const option options[] = {
     { "--trusted", NULL, &self.online.trusted, NULL }, { "--relay-only", NULL, NULL, &self.online.relay_only },
     { "--ask", NULL, NULL, &self.online.asks },      { "--door", NULL, NULL, &self.online.by_door },
     { "--headless", NULL, NULL, &self.wish.is_headless }, { "--again", NULL, NULL, &self.goes_again },
-    { "--rejoin", NULL, NULL, &self.lasts },
+    { "--rejoin", NULL, NULL, &self.lasts },         { "--begin-with", &self.online.begin_with, NULL, NULL },
     { "--unchecked", NULL, NULL, &self.is_unchecked }, { "--verbose", NULL, NULL, &self.is_verbose },
     { NULL, NULL, NULL, NULL },
 };
@@ -171,7 +173,8 @@ static const char *no_rejoin(void) {
 /* Why what was said doesn't go with a code; null if it does. */
 static const char *no_code(void) {
     return self.key != NULL ? "with a code there is no --key, as the code keeps others out"
-        : self.machines + self.viewers > FAZGROND_MACHINES ? "by a code eight machines meet at most, those that watch among them" : NULL;
+        : self.machines + self.viewers > FAZGROND_MACHINES ? "by a code eight machines meet at most, those that watch among them"
+        : self.online.begin_with > 0 && self.viewers > 0 ? "--begin-with isn't said with --viewers" : NULL;
 }
 
 /* Whether machines meet by a code. */
@@ -182,6 +185,8 @@ static bool take_code(void) {
         why = no_code();
     else if (self.viewers > 0)
         why = "--viewers is said with a code";
+    else if (self.online.begin_with > 0)
+        why = "--begin-with is said with a code";
     return why == NULL || (fail(why), false);
 }
 
@@ -327,8 +332,9 @@ static bool meet(core_state *opening) {
     limit_all();
     if (self.host > 0 && !give_all(opening))
         return false;
+    uint32_t wanted = self.host > 0 && self.by_code ? online_wanted(&self.meeting) - (uint32_t)self.viewers : (uint32_t)self.machines;
     if (self.host > 0)
-        meeting_host(&self.meeting, (uint32_t)self.machines, (uint32_t)self.seats, (uint32_t)self.threshold);
+        meeting_host(&self.meeting, wanted, (uint32_t)self.seats, (uint32_t)self.threshold);
     else
         meeting_join(&self.meeting, &self.meeting.host, self.watch != NULL ? 0 : (uint32_t)self.seats);
     while (!self.meeting.is_agreed && !self.meeting.is_refused && (self.wish.is_headless || window_goes_on())) {
@@ -336,8 +342,8 @@ static bool meet(core_state *opening) {
             meeting_hear(&self.meeting, &from, bytes, (size_t)length);
         take_what_came(opening);
         meeting_turn(&self.meeting);
-        snprintf(text, sizeof text, self.host > 0 ? "%u of %ld machines are there" : "waiting for the host",
-                 self.meeting.machines, self.machines);
+        snprintf(text, sizeof text, self.host > 0 ? "%" PRIu32 " of %" PRIu32 " machines are there" : "waiting for the host",
+                 self.meeting.machines, wanted);
         show_waiting(text);
         net_rest(&self.net, 50000 / self.speed);
     }

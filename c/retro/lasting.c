@@ -96,6 +96,9 @@ int32_t lasting_open_peer(match *self, const fazgrond_match *match, const fazgro
     if (it->epoch.size == 0) {
         it->epoch = fazgrond_epoch_for(match, settings);
         memcpy(it->epoch.delays, all->delays, sizeof it->epoch.delays);
+        for (uint32_t player = 0; player < all->players; player++)
+            if (agreement_is_vacant(all, all->owners[player]))
+                it->epoch.owners[player] = FAZGROND_NOBODY;
         note_part(self, &it->epoch);
     }
     faz_hosting_close(&it->hosting);
@@ -151,7 +154,7 @@ void lasting_note(match *self, const fazgrond_request *request) {
 
 /* Who has come in with this epoch, and who isn't in it. */
 static void tell_epoch(match *self) {
-    const agreement *all = &self->meeting->all;
+    agreement *all = &self->meeting->all;
     uint32_t there = 0, came = 0;
     for (uint32_t player = 0; player < all->players; player++) {
         uint32_t owner = self->lasting.epoch.owners[player];
@@ -163,11 +166,12 @@ static void tell_epoch(match *self) {
     for (uint32_t place = 0; place < all->machines; place++) {
         self->far |= place != all->me && (there >> place & 1) != 0 ? players_of(all, place) : 0;
         if ((came >> place & 1) != 0)
-            match_say(self, "machine %" PRIu32 " is back", place);
+            match_say(self, agreement_is_vacant(all, place) ? "machine %" PRIu32 " comes in" : "machine %" PRIu32 " is back", place);
         else if ((there >> place & 1) == 0)
             match_leave(self, place);
     }
     self->gone &= ~came;
+    all->vacant &= ~came;
 }
 
 static void begin_epoch(match *self, uint32_t frames) {
@@ -326,7 +330,7 @@ static void come_in(match *self, const faz_next *next) {
     tell_epoch(self);
     if (!casting_come(self))
         match_fail(self, "it can't be published");
-    match_say(self, "this machine is in the match again, from frame %" PRIu32 " on", self->lasting.base);
+    match_say(self, "this machine is in the match, from frame %" PRIu32 " on", self->lasting.base);
 }
 
 /* Loads and steps what came, for as long as a turn may take. */

@@ -92,7 +92,7 @@ static void seat_players(match *self, fazgrond_settings *settings) {
             self->hands[self->seats] = hand_of(self->wish->bot, player);
             self->next_words[self->seats] = hand_word(&self->hands[self->seats]);
             self->locals[self->seats++] = player + 1;
-        } else if (player < all->players)
+        } else if (player < all->players && !agreement_is_vacant(all, all->owners[player]))
             self->far |= 1u << player;
     }
 }
@@ -136,6 +136,7 @@ static bool begin(match *self) {
     char why[200] = "the core refuses its opening";
     self->session = (fazgrond_session)FAZGROND_CLOSED;
     self->peer = (fazgrond_peer)FAZGROND_CLOSED;
+    self->gone = self->meeting->all.vacant;
     self->holding = (holding){ .session = &self->session, .peer = &self->peer, .helpers = &self->helpers,
                                .turns = self->wish->hold };
     for (uint32_t at = 0; at < FAZGROND_MACHINES; at++)

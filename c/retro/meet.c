@@ -9,7 +9,7 @@
 #include <stdlib.h>
 #include <string.h>
 
-enum { HEAD = 12, HELLO = 1, TABLE = 2, REFUSAL = 3, PARTED = 4, OFFER = 5, RUNS = 6, VERSION = 3 };
+enum { HEAD = 12, HELLO = 1, TABLE = 2, REFUSAL = 3, PARTED = 4, OFFER = 5, RUNS = 6, VERSION = 4 };
 /* How pieces of states go: whom they name as their sender; how many an ask is for, and how many asks a turn has; the most that the
  * host gives all others in so many milliseconds. */
 enum { HOST = 0, GUEST = 1, ASKS = 2, MOST_GIVEN = 64, GIVEN_IN = 50 };
@@ -182,6 +182,7 @@ static void send_table(const meeting *self, const guest *to, uint32_t place) {
     put(&made, self->all.threshold, 1);
     put(&made, to->line_draw, 8);
     put(&made, to->players > 0 ? self->all.draw : 0, 8);
+    put(&made, self->all.vacant, 1);
     put_players(&made, &self->all);
     for (uint32_t at = 0; at < FAZGROND_MACHINES; at++) {
         put(&made, to->players > 0 ? self->draws[place][at] : 0, 8);
@@ -232,8 +233,25 @@ static void send_offer(const meeting *self, const guest *to) {
     send_sealed(self, &to->at, &made);
 }
 
+static uint32_t seated(const meeting *self) {
+    uint32_t players = 0;
+    for (uint32_t at = 0; at < self->machines; at++)
+        players += self->machine[at].players;
+    return players;
+}
+
+/* Each is a machine of the match, with a player, for as many as it may have. */
+static void seat_vacant(meeting *self) {
+    uint32_t left = FAZGROND_PLAYERS - seated(self);
+    for (uint32_t at = 0; at < self->vacants && at < left && self->machines < FAZGROND_MACHINES; at++) {
+        self->all.vacant |= 1u << self->machines;
+        self->machine[self->machines++] = (guest){ .at = self->vacant[at], .players = 1 };
+    }
+}
+
 static void agree(meeting *self) {
     agreement *all = &self->all;
+    seat_vacant(self);
     all->machines = self->machines;
     for (uint32_t one = 0; one < self->machines; one++)
         for (uint32_t seat = 0; seat < self->machine[one].players; seat++) {
@@ -247,7 +265,7 @@ static void agree(meeting *self) {
     for (uint32_t one = 0; one < self->machines; one++) {
         all->numbers[one] = number_of(self, self->draws[0][one]);
         all->machine[one] = self->machine[one].at;
-        if (one > 0)
+        if (one > 0 && (all->vacant >> one & 1) == 0)
             send_table(self, &self->machine[one], one);
     }
     self->is_agreed = true;
@@ -255,10 +273,7 @@ static void agree(meeting *self) {
 
 /* Why there is no seat for a guest whom the host doesn't know yet; null if there is one. */
 static const char *no_seat(const meeting *self, const guest *one) {
-    uint32_t seated = one->players;
-    for (uint32_t at = 0; at < self->machines; at++)
-        seated += self->machine[at].players;
-    if (one->players > 0 && (self->is_agreed || seated > FAZGROND_PLAYERS))
+    if (one->players > 0 && (self->is_agreed || one->players + seated(self) > FAZGROND_PLAYERS))
         return "the match has begun, or there are enough players";
     return one->players == 0 && self->viewers == VIEWERS ? "enough watch it" : NULL;
 }
@@ -364,6 +379,7 @@ static void take_table(meeting *self, const address *from, cursor *heard) {
     all->threshold = (uint32_t)take(heard, 1);
     all->line = number_of(self, take(heard, 8));
     all->draw = take(heard, 8);
+    all->vacant = (uint32_t)take(heard, 1);
     take_players(heard, all);
     for (int at = 0; at < FAZGROND_MACHINES; at++) {
         all->numbers[at] = number_of(self, take(heard, 8));
@@ -636,6 +652,8 @@ void meeting_host(meeting *self, uint32_t wanted, uint32_t players, uint32_t thr
     self->all.digest = digest_of_all(self);
     self->machine[self->machines] = (guest){ .nonce = self->nonce, .players = players };
     memcpy(self->machine[self->machines++].delays, self->delays, sizeof self->delays);
+    if (self->machines == self->wanted)
+        agree(self);
 }
 
 void meeting_join(meeting *self, const address *host, uint32_t players) {

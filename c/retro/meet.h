@@ -35,9 +35,14 @@ typedef struct agreement {
     uint64_t numbers[FAZGROND_MACHINES], line, digest; /* line: of a viewer's line */
     uint64_t draw; /* of a match that lasts: all its numbers are made of it */
     bool runs;     /* such a match has begun already, and this machine comes into it */
+    uint32_t vacant; /* a bit for each machine that isn't there as the match begins, and whose player is nobody's until it comes */
     uint32_t base; /* how many of its frames came before its epoch */
     address machine[FAZGROND_MACHINES];
 } agreement;
+
+static inline bool agreement_is_vacant(const agreement *all, uint32_t machine) {
+    return machine < FAZGROND_MACHINES && (all->vacant >> machine & 1) != 0;
+}
 
 typedef struct meeting {
     net *net;
@@ -58,6 +63,8 @@ typedef struct meeting {
     address host;
     uint32_t machines, viewers; /* of the host: who is there so far, itself the first machine */
     guest machine[FAZGROND_MACHINES], viewer[VIEWERS];
+    address vacant[FAZGROND_MACHINES]; /* of the host: where machines may come from that aren't waited for */
+    uint32_t vacants;
     uint64_t draws[FAZGROND_MACHINES][FAZGROND_MACHINES];
     agreement all;
     fazgrond_giver givers[GIVEN]; /* of the host; closed where it has none */
@@ -74,7 +81,7 @@ typedef struct meeting {
 /* At the host, before it waits: what guests may take. None if there are no bytes. */
 bool meeting_give(meeting *self, int which, const void *from, size_t size);
 
-/* At the host, which waits for so many machines in all. */
+/* At the host, which waits for so many machines in all, and puts those into the match besides that are vacant. */
 void meeting_host(meeting *self, uint32_t wanted, uint32_t players, uint32_t threshold);
 /* Elsewhere; with no players it watches. */
 void meeting_join(meeting *self, const address *host, uint32_t players);

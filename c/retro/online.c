@@ -26,7 +26,8 @@ static void tell_events(void) {
     faz_lobby_event event;
     char text[TEXT];
     while (faz_lobby_next_event(self.lobby, &event)) {
-        lobby_words_of(&event, text, sizeof text);
+        faz_lobby_words_begin(&self.words, self.lobby, &event);
+        faz_lobby_words_of(&event, text, sizeof text);
         if (*text == 0)
             continue;
         memcpy(event.what == FAZ_LOBBY_CODE ? self.code : self.text, text, sizeof text);
@@ -42,8 +43,9 @@ bool online_open(const online_wish *wish) {
     faz_lobby_settings settings = { .digest = DIGEST, .players = wish->machines, .any_sender = true };
     self.words = (lobby_words){ .broker = wish->broker, .trusted = wish->trusted, .stun = wish->stun, .relay = wish->relay,
                                 .tcp_relay = wish->tcp_relay, .name = wish->name, .relay_only = wish->relay_only,
-                                .asks = wish->asks, .by_door = wish->by_door, .lasts = wish->lasts };
-    const char *why = lobby_words_read(&self.words, &settings);
+                                .asks = wish->asks, .by_door = wish->by_door, .lasts = wish->lasts,
+                                .begin_with = wish->begin_with };
+    const char *why = faz_lobby_words_read(&self.words, &settings);
     if (why == NULL)
         self.lobby = wish->code != NULL ? faz_lobby_join(&settings, wish->code, &why) : faz_lobby_host(&settings, &why);
     if (self.lobby == NULL)
@@ -54,7 +56,7 @@ bool online_open(const online_wish *wish) {
 static void turn(void) {
     faz_lobby_turn(self.lobby, millis());
     tell_events();
-    self.asking = lobby_words_let_in(self.lobby, self.asking);
+    self.asking = faz_lobby_words_let_in(self.lobby, self.asking);
 }
 
 online_stage online_turn(void) {
@@ -101,6 +103,16 @@ bool online_take(net *over, meeting *with) {
     with->has_key = true;
     with->key = match.number;
     return match.me == 0;
+}
+
+uint32_t online_wanted(meeting *with) {
+    faz_lobby_match match;
+    (void)faz_lobby_get_match(self.lobby, &match);
+    with->vacants = 0;
+    for (uint32_t machine = 0; machine < match.machines; machine++)
+        if ((match.vacant >> machine & 1) != 0)
+            with->vacant[with->vacants++] = address_of(machine);
+    return match.machines - with->vacants;
 }
 
 void online_close(void) {

@@ -13,6 +13,7 @@ typedef struct online_wish {
     const char *broker, *trusted, *stun, *relay, *tcp_relay, *name;
     bool relay_only, asks, by_door, lasts;
     uint32_t machines; /* how many the host waits for, those that watch among them */
+    long begin_with;   /* as in lobby_words */
 } online_wish;
 
 typedef enum online_stage { ONLINE_WAITS, ONLINE_READY, ONLINE_OVER } online_stage;
@@ -27,6 +28,8 @@ const char *online_text(void);
 /* Once it is ready: the meeting and its match go over the lines, and by a key that these machines alone have. Whether this machine hosts,
  * as one does that has hosted and comes back. */
 bool online_take(net *over, meeting *with);
+/* At the host, before it meets the others: how many it waits for. The other machines of the lobby are vacant, and may come later. */
+uint32_t online_wanted(meeting *with);
 /* Null is no lobby. */
 void online_close(void);
 #else
@@ -38,6 +41,7 @@ static inline bool online_open(const online_wish *wish) {
 static inline online_stage online_turn(void) { return ONLINE_OVER; }
 static inline const char *online_text(void) { return ""; }
 static inline bool online_take(net *over, meeting *with) { return (void)over, (void)with, false; }
+static inline uint32_t online_wanted(meeting *with) { return (void)with, 0; }
 static inline void online_close(void) {}
 #endif
 #endif

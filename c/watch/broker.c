@@ -1,9 +1,11 @@
+#define _POSIX_C_SOURCE 200809L
 #include "broker.h"
 
 #include <inttypes.h>
 #include <stdio.h>
 #include <stdlib.h>
 #include <string.h>
+#include <time.h>
 
 enum { SERVERS = 16, WAIT = 2000 };
 #define SECOND INT64_C(1000000000)
@@ -39,6 +41,7 @@ static natsStatus make_connection(faz_broker *self) {
         natsOptions_SetReconnectJitter(options, 100, 100);
         natsOptions_SetRetryOnFailedConnect(options, true, on_connected, NULL);
         natsOptions_SetTimeout(options, WAIT);
+        natsOptions_SetWriteDeadline(options, WAIT); /* else a broker that reads nothing is waited for without an end */
         natsOptions_SetPingInterval(options, WAIT);
         natsOptions_SetErrorHandler(options, on_error, NULL);
         status = natsConnection_Connect(&self->connection, options);
@@ -143,4 +146,74 @@ natsStatus faz_broker_last(faz_broker *self, natsMsg **message, const char *subj
     jsDirectGetMsgOptions_Init(&which);
     which.LastBySubject = subject;
     return get(self, message, &which);
+}
+
+/* Work beside the game. */
+
+static void finish(faz_beside *self) {
+    pthread_cond_destroy(&self->end);
+    pthread_mutex_destroy(&self->lock);
+    self->drop(self->of);
+}
+
+static void *run(void *closure) {
+    faz_beside *self = closure;
+    self->work(self->of);
+    pthread_mutex_lock(&self->lock);
+    bool is_left = self->is_left;
+    self->is_over = true;
+    pthread_cond_signal(&self->end);
+    pthread_mutex_unlock(&self->lock);
+    if (is_left)
+        finish(self);
+    return NULL;
+}
+
+bool faz_beside_begin(faz_beside *self, void (*work)(void *of), void (*drop)(void *of), void *of) {
+    pthread_condattr_t clock;
+    *self = (faz_beside){ .work = work, .drop = drop, .of = of };
+    pthread_condattr_init(&clock);
+    pthread_condattr_setclock(&clock, CLOCK_MONOTONIC);
+    pthread_mutex_init(&self->lock, NULL);
+    pthread_cond_init(&self->end, &clock);
+    pthread_condattr_destroy(&clock);
+    if (pthread_create(&self->thread, NULL, run, self) == 0)
+        return true;
+    pthread_cond_destroy(&self->end);
+    pthread_mutex_destroy(&self->lock);
+    return false;
+}
+
+bool faz_beside_hold(faz_beside *self) {
+    pthread_mutex_lock(&self->lock);
+    if (!self->is_left)
+        return true;
+    pthread_mutex_unlock(&self->lock);
+    return false;
+}
+
+void faz_beside_let_go(faz_beside *self) { pthread_mutex_unlock(&self->lock); }
+
+void faz_beside_wait(faz_beside *self, uint32_t milliseconds) {
+    struct timespec until;
+    clock_gettime(CLOCK_MONOTONIC, &until);
+    until.tv_sec += milliseconds / 1000 + (until.tv_nsec + milliseconds % 1000 * 1000000) / 1000000000;
+    until.tv_nsec = (until.tv_nsec + milliseconds % 1000 * 1000000) % 1000000000;
+    pthread_mutex_lock(&self->lock);
+    while (!self->is_over && pthread_cond_timedwait(&self->end, &self->lock, &until) == 0)
+        ;
+    pthread_mutex_unlock(&self->lock);
+}
+
+void faz_beside_leave(faz_beside *self) {
+    pthread_mutex_lock(&self->lock);
+    bool is_over = self->is_over;
+    self->is_left = true;
+    if (!is_over)
+        pthread_detach(self->thread);
+    pthread_mutex_unlock(&self->lock);
+    if (!is_over)
+        return;
+    pthread_join(self->thread, NULL);
+    finish(self);
 }

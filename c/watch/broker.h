@@ -5,6 +5,7 @@
 #include "message.h"
 
 #include <nats/nats.h>
+#include <pthread.h>
 
 /* The stream. The broker tells each message of rows that it has stored, once, as live.MATCH.CHAPTER. */
 #define FAZ_STREAM "FAZ"
@@ -21,7 +22,8 @@ typedef struct faz_broker {
 bool faz_broker_open(faz_broker *broker, const char *servers);
 
 /* Connects to one of them, and to another one whenever the connection is lost, for as long as it takes. The first try is waited
- * for, up to two seconds for each server. Before it no other call is made but faz_broker_close. False if it can't be: try again. */
+ * for, up to two seconds for each server, and so may every call be from then on, until a connection is made anew: all are a
+ * thread's beside the game. Before it no other call is made but faz_broker_close. False if it can't be: try again. */
 bool faz_broker_reach(faz_broker *broker);
 void faz_broker_close(faz_broker *broker);
 
@@ -35,4 +37,27 @@ natsStatus faz_broker_look(faz_broker *broker, char *out, size_t room);
  * NATS_NOT_FOUND if there is none, and any other status if the broker can't be asked now. Places count from 1. */
 natsStatus faz_broker_next(faz_broker *broker, natsMsg **message, const char *subject, uint64_t place);
 natsStatus faz_broker_last(faz_broker *broker, natsMsg **message, const char *subject);
+
+/* Work that waits for the broker, on a thread beside the game. It stands in what it works with. */
+typedef struct faz_beside {
+    void (*work)(void *of), (*drop)(void *of);
+    void *of;
+    pthread_t thread;
+    pthread_mutex_t lock;
+    pthread_cond_t end;
+    bool is_over, is_left;
+} faz_beside;
+
+/* Has `work` done with `of`. False if no thread can be begun. */
+bool faz_beside_begin(faz_beside *beside, void (*work)(void *of), void (*drop)(void *of), void *of);
+
+/* The thread's: whether the game is still there, whose functions may be called then. It stays until faz_beside_let_go. */
+bool faz_beside_hold(faz_beside *beside);
+void faz_beside_let_go(faz_beside *beside);
+
+/* The game's: waits until the work is over, so many milliseconds at most. */
+void faz_beside_wait(faz_beside *beside, uint32_t milliseconds);
+
+/* The game's: it leaves. `of` is dropped, now or once the work is over. */
+void faz_beside_leave(faz_beside *beside);
 #endif

@@ -3,7 +3,6 @@
 
 #include "broker.h"
 
-#include <pthread.h>
 #include <semaphore.h>
 #include <stdatomic.h>
 #include <stdlib.h>
@@ -31,6 +30,7 @@ typedef struct entry {
 
 struct faz_cast {
     faz_cast_settings settings;
+    faz_game game;
     char match[FAZ_NAME], me[FAZ_NAME], *servers, reason[FAZ_REASON];
     uint64_t number;
     faz_head head;
@@ -56,7 +56,7 @@ struct faz_cast {
     atomic_bool is_closing;
     atomic_llong deadline; /* in milliseconds, once it is closing */
     sem_t something;
-    pthread_t thread;
+    faz_beside beside;
 
     /* The sender's side. */
     faz_broker broker;
@@ -85,7 +85,7 @@ static void push(faz_cast *self, const entry *one) {
         sem_post(&self->something);
 }
 
-static uint8_t *snap_at(faz_cast *self, uint32_t slot) { return self->snaps + slot * self->settings.game->size; }
+static uint8_t *snap_at(faz_cast *self, uint32_t slot) { return self->snaps + slot * self->game.size; }
 
 /* A snapshot of the state near, which is that of this frame; it ends a gap. */
 static void push_snap(faz_cast *self) {
@@ -94,7 +94,7 @@ static void push_snap(faz_cast *self) {
         slot++;
     if (slot == SNAPS || room(self) < (self->is_full ? AFTER_GAP : 2))
         return;
-    memcpy(snap_at(self, slot), self->near, self->settings.game->size);
+    memcpy(snap_at(self, slot), self->near, self->game.size);
     atomic_store(&self->is_taken[slot], true);
     push(self, &(entry){ .kind = FAZ_SNAP, .frame = self->frame, .slot = slot,
                          .gap = self->gap != NO_GAP ? (uint32_t)self->gap : self->frame });
@@ -114,7 +114,7 @@ static void note_chapter(faz_cast *self) {
     if (!self->is_near || self->frame - self->near_frame > NEAR)
         return;
     for (; self->near_frame < self->frame; self->near_frame++)
-        self->settings.game->step(self->near, &self->recent[self->near_frame % (2 * NEAR)]);
+        self->game.step(self->near, &self->recent[self->near_frame % (2 * NEAR)]);
     push_snap(self);
 }
 
@@ -141,7 +141,7 @@ void faz_cast_settled(faz_cast *self, uint32_t frame, const void *state) {
         push_opening(self);
     if (frame != self->frame || FAZ_CHAPTER - frame % FAZ_CHAPTER > NEAR)
         return;
-    memcpy(self->near, state, self->settings.game->size);
+    memcpy(self->near, state, self->game.size);
     self->near_frame = frame;
     self->is_near = true;
 }
@@ -286,11 +286,20 @@ static bool send_run(faz_cast *self) {
     return is_sent;
 }
 
+/* The digest of a state. False: the game has left, and its functions may be gone. */
+static bool take_digest(faz_cast *self, const uint8_t *state, uint64_t *digest) {
+    if (!faz_beside_hold(&self->beside))
+        return false;
+    *digest = self->game.digest(state);
+    faz_beside_let_go(&self->beside);
+    return true;
+}
+
 static bool send_snap(faz_cast *self, const entry *one) {
     const uint8_t *state = snap_at(self, one->slot);
-    size_t size = self->settings.game->size;
-    faz_sum sum = { .frame = one->frame, .gap = one->gap, .digest = self->settings.game->digest(state) };
-    bool is_sent = send_run(self)
+    size_t size = self->game.size;
+    faz_sum sum = { .frame = one->frame, .gap = one->gap };
+    bool is_sent = take_digest(self, state, &sum.digest) && send_run(self)
         && deliver(self, FAZ_SNAP, one->frame, faz_write_snap(self->bytes, self->number, &sum, state, size))
         && deliver(self, FAZ_SUM, one->frame, faz_write_sum(self->bytes, self->number, &sum));
     atomic_store(&self->is_taken[one->slot], false);
@@ -343,8 +352,8 @@ static bool reach(faz_cast *self) {
     return true;
 }
 
-static void *send_all(void *closure) {
-    faz_cast *self = closure;
+static void send_all(void *of) {
+    faz_cast *self = of;
     size_t at = 0;
     bool goes_on = reach(self) && deliver(self, FAZ_HEAD, 0, faz_write_head(self->bytes, self->number, &self->head));
     while (goes_on) {
@@ -360,7 +369,7 @@ static void *send_all(void *closure) {
     }
     if (send_run(self) && at == atomic_load(&self->given))
         atomic_store(&self->done, at);
-    return NULL;
+    faz_broker_close(&self->broker);
 }
 
 /* Opening and closing. */
@@ -384,8 +393,9 @@ static faz_head head_of(const faz_cast_settings *settings) {
     return head;
 }
 
-static void give_back(faz_cast *self) {
-    faz_broker_close(&self->broker);
+static void give_back(void *of) {
+    faz_cast *self = of;
+    sem_destroy(&self->something);
     free(self->servers);
     free(self->near);
     free(self->snaps);
@@ -398,7 +408,9 @@ static faz_cast *make(const faz_cast_settings *settings) {
     size_t size = settings->game->size;
     if (self == NULL)
         return NULL;
+    sem_init(&self->something, 0, 0);
     self->settings = *settings;
+    self->game = *settings->game;
     self->near = malloc(size);
     self->snaps = malloc(SNAPS * size);
     self->bytes = malloc(FAZ_SMALL + size);
@@ -429,11 +441,9 @@ faz_cast *faz_cast_open(const faz_cast_settings *settings, const char **why) {
         give_back(self);
         return NULL;
     }
-    sem_init(&self->something, 0, 0);
-    if (pthread_create(&self->thread, NULL, send_all, self) == 0)
+    if (faz_beside_begin(&self->beside, send_all, give_back, self))
         return self;
     *why = "no thread can be begun";
-    sem_destroy(&self->something);
     give_back(self);
     return NULL;
 }
@@ -457,10 +467,9 @@ bool faz_cast_close(faz_cast *self, uint32_t milliseconds, faz_cast_state *state
     atomic_store(&self->deadline, millis() + milliseconds);
     atomic_store(&self->is_closing, true);
     sem_post(&self->something);
-    pthread_join(self->thread, NULL);
+    faz_beside_wait(&self->beside, milliseconds);
     bool has_all = atomic_load(&self->done) == atomic_load(&self->given);
     faz_cast_look(self, state);
-    sem_destroy(&self->something);
-    give_back(self);
+    faz_beside_leave(&self->beside);
     return has_all;
 }

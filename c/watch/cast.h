@@ -1,5 +1,5 @@
-/* Publishes a match to a broker, whose stream is there (faz-cast --create), for any number of viewers. No call waits for the
- * broker: a thread of its own does. */
+/* Publishes a match to a broker, whose stream is there (faz-cast --create), for any number of viewers. No call but faz_cast_close
+ * waits for the broker: a thread of its own does. */
 #ifndef FAZ_CAST_H
 #define FAZ_CAST_H
 
@@ -67,8 +67,8 @@ void faz_cast_end(faz_cast *cast, const char *reason);
 
 void faz_cast_look(faz_cast *cast, faz_cast_state *state);
 
-/* Waits so many milliseconds at most until the broker has all, or up to two seconds more if it was never there, and gives all
- * back. Whether it has all, and how far it came. */
+/* Waits so many milliseconds at most until the broker has all. Whether it has, and how far it came. A thread that still waits for
+ * the broker then gives all back once it is done, and calls nothing of the game any more. */
 bool faz_cast_close(faz_cast *cast, uint32_t milliseconds, faz_cast_state *state);
 
 #ifdef __cplusplus

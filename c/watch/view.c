@@ -16,7 +16,7 @@ enum {
     CATCH_UP = 8,       /* frames in a turn, at most */
     SLACK = 2 * FAZ_RUN, /* so many frames over the cushion are played at the usual speed */
     PATIENCE = 60,      /* turns until less than a cushion is played, and until an end is believed */
-    POLL = 20, AGAIN = 500, SILENCE = 1000, /* milliseconds */
+    POLL = 20, AGAIN = 500, SILENCE = 1000, LAST = 100, /* milliseconds */
     CHECKS = 8
 };
 
@@ -38,6 +38,7 @@ typedef struct check {
 
 struct faz_view {
     faz_view_settings settings;
+    faz_game game;
     char match[FAZ_NAME], *servers;
 
     /* The game's side alone. */
@@ -55,7 +56,7 @@ struct faz_view {
     uint32_t asked;
 
     /* The reader's side alone. */
-    pthread_t thread;
+    faz_beside beside;
     atomic_bool is_closing;
     faz_broker broker;
     natsSubscription *live;
@@ -73,10 +74,15 @@ static int64_t millis(void) {
 
 /* The reader's side. */
 
+/* Nothing is taken once the game has left: its functions may be gone. */
 static faz_taken take(faz_view *self, natsMsg *message) {
+    faz_taken taken = FAZ_OTHER;
     pthread_mutex_lock(&self->lock);
-    faz_taken taken = faz_timeline_take(self->timeline, (const uint8_t *)natsMsg_GetData(message),
-                                        (size_t)natsMsg_GetDataLength(message), self->read);
+    if (faz_beside_hold(&self->beside)) {
+        taken = faz_timeline_take(self->timeline, (const uint8_t *)natsMsg_GetData(message), (size_t)natsMsg_GetDataLength(message),
+                                  self->read);
+        faz_beside_let_go(&self->beside);
+    }
     pthread_mutex_unlock(&self->lock);
     return taken;
 }
@@ -169,7 +175,7 @@ static void grant(faz_view *self, const wish *asked) {
     }
     pthread_mutex_lock(&self->lock);
     if (self->wish.number == asked->number) {
-        memcpy(self->wish.state, self->read, self->settings.game->size);
+        memcpy(self->wish.state, self->read, self->game.size);
         self->wish.frame = frame;
         self->wish.is_there = true;
         self->wish.is_open = false;
@@ -235,12 +241,12 @@ static void ask_rows(faz_view *self) {
     pthread_mutex_unlock(&self->lock);
 }
 
-static void *read_all(void *closure) {
-    faz_view *self = closure;
+static void read_all(void *of) {
+    faz_view *self = of;
     char subject[FAZ_SUBJECT];
     while (!faz_broker_reach(&self->broker)) {
         if (atomic_load(&self->is_closing))
-            return NULL;
+            return;
         nats_Sleep(POLL);
     }
     snprintf(subject, sizeof subject, FAZ_LIVE ".%s.*", self->match);
@@ -259,7 +265,7 @@ static void *read_all(void *closure) {
             ask_rows(self);
     }
     natsSubscription_Destroy(self->live);
-    return NULL;
+    faz_broker_close(&self->broker);
 }
 
 /* The game's side. All of it is under the lock. */
@@ -276,7 +282,7 @@ static void wish_for(faz_view *self, uint32_t chapter, bool is_exact) {
 static void note_check(faz_view *self) {
     uint32_t chapter = self->frame / FAZ_CHAPTER;
     if (self->frame % FAZ_CHAPTER == 0)
-        self->checks[chapter % CHECKS] = (check){ true, chapter, self->settings.game->digest(self->state) };
+        self->checks[chapter % CHECKS] = (check){ true, chapter, self->game.digest(self->state) };
 }
 
 static void compare(faz_view *self) {
@@ -293,7 +299,7 @@ static void compare(faz_view *self) {
 
 static const fazgrond_row *step(faz_view *self) {
     const fazgrond_row *row = faz_timeline_row(self->timeline, self->frame);
-    self->settings.game->step(self->state, row);
+    self->game.step(self->state, row);
     self->frame++;
     note_check(self);
     return row;
@@ -304,7 +310,7 @@ static void take_wish(faz_view *self) {
     if (!self->wish.is_there)
         return;
     self->wish.is_there = false;
-    memcpy(self->state, self->wish.state, self->settings.game->size);
+    memcpy(self->state, self->wish.state, self->game.size);
     self->frame = self->wish.frame;
     self->is_shown = true;
     self->is_waiting = true;
@@ -436,8 +442,9 @@ void faz_view_look(faz_view *self, faz_view_state *state) {
 
 /* Opening and closing. */
 
-static void give_back(faz_view *self) {
-    faz_broker_close(&self->broker);
+static void give_back(void *of) {
+    faz_view *self = of;
+    pthread_mutex_destroy(&self->lock);
     faz_timeline_close(self->timeline);
     free(self->servers);
     free(self->state);
@@ -451,12 +458,14 @@ static faz_view *make(const faz_view_settings *settings) {
     size_t size = settings->game->size;
     if (self == NULL)
         return NULL;
+    pthread_mutex_init(&self->lock, NULL);
     self->settings = *settings;
+    self->game = *settings->game;
     self->state = malloc(size);
     self->wish.state = malloc(size);
     self->read = malloc(size);
     self->servers = malloc(strlen(settings->servers) + 1);
-    self->timeline = faz_timeline_open(settings->game, settings->match);
+    self->timeline = faz_timeline_open(&self->game, settings->match);
     if (self->state != NULL && self->wish.state != NULL && self->read != NULL && self->servers != NULL && self->timeline != NULL)
         return self;
     give_back(self);
@@ -476,13 +485,11 @@ faz_view *faz_view_open(const faz_view_settings *settings, const char **why) {
         give_back(self);
         return NULL;
     }
-    pthread_mutex_init(&self->lock, NULL);
     self->is_live = settings->is_live;
     go_to(self, settings->from, settings->from == FAZ_LATEST);
     *why = "no thread can be begun";
-    if (pthread_create(&self->thread, NULL, read_all, self) == 0)
+    if (faz_beside_begin(&self->beside, read_all, give_back, self))
         return self;
-    pthread_mutex_destroy(&self->lock);
     give_back(self);
     return NULL;
 }
@@ -491,7 +498,6 @@ void faz_view_close(faz_view *self) {
     if (self == NULL)
         return;
     atomic_store(&self->is_closing, true);
-    pthread_join(self->thread, NULL);
-    pthread_mutex_destroy(&self->lock);
-    give_back(self);
+    faz_beside_wait(&self->beside, LAST);
+    faz_beside_leave(&self->beside);
 }

@@ -1,5 +1,5 @@
 /* Watches a match that is published on a broker: joins it at any time, plays its settled rows, goes back and forth in it. A
- * thread of its own talks to the broker; the game's calls wait for nothing. */
+ * thread of its own talks to the broker, and no call but faz_view_close waits for that. */
 #ifndef FAZ_VIEW_H
 #define FAZ_VIEW_H
 
@@ -41,6 +41,9 @@ typedef struct faz_view_state {
 
 /* Begins to watch. Null if it can't, and why: a text that stays. */
 faz_view *faz_view_open(const faz_view_settings *settings, const char **why);
+
+/* Ends it, within a tenth of a second: a thread that still waits for the broker then gives all back once it is done, and calls
+ * nothing of the game any more. */
 void faz_view_close(faz_view *view);
 
 /* Is called with each new state, the row that led to it, and how many rows it has; it calls nothing of the view. */

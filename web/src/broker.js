@@ -9,9 +9,9 @@ const MOST_READ = 1 << 21; // bytes of one message that hasn't come whole; a bro
 /** A connection, which is made anew as often as it breaks. What is said while it isn't there is lost. */
 export class Connection {
   /** `heard` is given each message: its subject, where it may be answered, its status if that is all of it, its head and its body;
-   * and `there` is called once there is a connection. */
-  constructor({ url, user, password, heard, there = () => {} }) {
-    Object.assign(this, { url, user, password, heard, there });
+   * and `there` is called once there is a connection. `shows` makes what a broker with an operator is shown, of its nonce. */
+  constructor({ url, user, password, shows = null, heard, there = () => {} }) {
+    Object.assign(this, { url, user, password, shows, heard, there });
     this.subjects = new Map(); // by their numbers
     this.subscribed = 0;
     this.isClosed = false;
@@ -27,7 +27,7 @@ export class Connection {
     this.read = new Uint8Array(0);
     this.socket = socket;
     this.unanswered = 0; // PINGs
-    this.isGreeted = false;
+    this.isMet = this.isGreeted = false;
     socket.onmessage = ({ data }) => this.take(socket, new Uint8Array(data));
     socket.onclose = () => this.renew(socket);
   }
@@ -42,7 +42,7 @@ export class Connection {
   /** Looks whether the broker is still there, since nobody tells if a network is gone: to be called every few seconds. */
   look() {
     if (this.unanswered++ < MOST_UNANSWERED) {
-      this.say("PING\r\n");
+      if (this.isGreeted) this.say("PING\r\n"); // (a greeting is the first that a broker is told)
       return;
     }
     const { socket } = this;
@@ -83,7 +83,7 @@ export class Connection {
     all.set(this.read);
     all.set(bytes, this.read.length);
     let at = 0;
-    for (let used = this.line(all, at); used > 0; used = this.line(all, at)) at += used;
+    for (let used = this.line(socket, all, at); used > 0; used = this.line(socket, all, at)) at += used;
     this.read = all.slice(at);
     if (this.read.length <= MOST_READ) return;
     this.why = "the broker says too much at once";
@@ -91,16 +91,21 @@ export class Connection {
     this.renew(socket);
   }
 
+  refusal(text) {
+    const isPass = this.shows !== null && text.includes("Authorization Violation");
+    return isPass ? "the broker doesn't take this pass" : `the broker says: ${text}`;
+  }
+
   /** Takes a line, and what belongs to it. How many bytes those are; 0 if not all of them have come. */
-  line(all, from) {
+  line(socket, all, from) {
     const end = all.indexOf(10, from);
     if (end < 0) return 0;
     const [kind, ...words] = new TextDecoder().decode(all.subarray(from, end - 1)).split(" ");
     const length = end + 1 - from;
     if (kind === "PING") this.say("PONG\r\n");
-    if (kind === "INFO" && !this.isGreeted) this.greet();
+    if (kind === "INFO" && !this.isMet) this.meet(socket, words.join(" "));
     if (kind === "PONG") this.answered();
-    if (kind === "-ERR") this.why = `the broker says: ${words.join(" ")}`;
+    if (kind === "-ERR") this.why = this.refusal(words.join(" "));
     if (kind !== "MSG" && kind !== "HMSG") return length;
     const size = Number(words.at(-1));
     const front = kind === "HMSG" ? Number(words.at(-2)) : 0;
@@ -118,12 +123,30 @@ export class Connection {
     if (isNew) this.there();
   }
 
-  greet() {
+  /** A broker has said who it is. */
+  meet(socket, info) {
+    this.isMet = true;
+    this.greet(socket, info).catch((why) => (this.why = `nothing can be shown to the broker: ${why.message}`));
+  }
+
+  /** What it is shown takes a moment. */
+  async greet(socket, info) {
     const told = { verbose: false, pedantic: false, headers: true, no_responders: true, lang: "js", version: "1" };
-    Object.assign(told, { user: this.user, pass: this.password });
+    if (this.shows === null) Object.assign(told, { user: this.user, pass: this.password });
+    else Object.assign(told, await this.shows(nonceOf(info)));
+    if (socket !== this.socket) return;
     const subjects = Array.from(this.subjects, ([number, subject]) => `SUB ${subject} ${number}\r\n`);
     this.isGreeted = true;
     this.say(`CONNECT ${JSON.stringify(told)}\r\n${subjects.join("")}PING\r\n`);
+  }
+}
+
+/** What a broker wants to have signed. */
+function nonceOf(info) {
+  try {
+    return String(JSON.parse(info).nonce ?? "");
+  } catch {
+    return "";
   }
 }
 

@@ -14,13 +14,15 @@ export class Door {
   constructor(lobby, takesServers) {
     Object.assign(this, { lobby, takesServers, asks: Asks.RELAYS, plate: "", token: new Uint8Array(TOKEN) });
     Object.assign(this, { beganAt: null, saidAt: null, answeredAt: null, isAwayTold: false, isMissing: false });
-    // An inbox of its own: so it is known that it is the door, and not a host, whom nobody hears.
-    this.inbox = inboxSubject(drawn(INBOX));
-    lobby.connection.hear(this.inbox);
   }
 
+  /** It has an inbox of its own: so it is known that it is the door, and not a host, whom nobody hears. With a pass it is a part of the
+   * lobby's, where nobody but the door may say anything. */
   async begin() {
+    const { lobby } = this;
     this.keys = await drawKeys();
+    this.inbox = lobby.hasPass ? `${lobby.inboxName}.door` : inboxSubject(drawn(INBOX));
+    lobby.connection.hear(this.inbox);
   }
 
   /** Asks anew, for something else. */

@@ -1,7 +1,8 @@
 // The host's side of a lobby, as c/lobby/hosting.c and knocking.c have it.
 import { PAGE, Why } from "./reasons.js";
 import {
-  Asks, KINDS, Says, inboxSubject, openAsk, readAsk, readHello, readInbox, readKnock, roomSubject, writeAnswer, writeKnock, writeOffer,
+  Asks, KINDS, Says, inboxSubject, isOlderInbox, openAsk, readAsk, readHello, readInbox, readKnock, roomSubject, writeAnswer, writeKnock,
+  writeOffer,
 } from "./messages.js";
 import { Pair, codeOf, drawHost, drawShort, roomOf, writeCode, writeShort } from "./keys.js";
 import { Pake } from "./pake.js";
@@ -65,28 +66,28 @@ export class Host {
     }
   }
 
-  async hearKnock(body, inbox) {
+  async hearKnock(body, reply) {
     if (this.plate === "") return;
     const came = readKnock(body);
     const id = hex(came.id);
-    const one = this.knockers.get(id) ?? this.newKnocker(id, came.step);
-    if (one === null) return;
+    const one = this.knockers.get(id) ?? this.newKnocker(id, came.step, reply);
+    if (one === null || one.reply !== reply) return; // (nobody else is told what is said to it)
     if (came.step === one.step) {
-      this.lobby.say(inboxSubject(inbox), one.said);
+      this.lobby.say(reply, one.said);
     } else if (came.step === one.step + 1 && one.room === null && this.proofs < MOST_PROOFS) {
       this.proofs++; // they take some milliseconds each: others ask again
-      await this.prove(one, id, came, inbox);
+      await this.prove(one, id, came, reply);
     }
   }
 
-  newKnocker(id, step) {
+  newKnocker(id, step, reply) {
     if (step !== 1 || this.knockers.size >= MOST_KNOCKERS) return null;
-    const one = { pake: new Pake(true, this.plate, this.secret), step: 0, begunAt: this.lobby.now, room: null, said: null };
+    const one = { pake: new Pake(true, this.plate, this.secret), step: 0, begunAt: this.lobby.now, room: null, said: null, reply };
     this.knockers.set(id, one);
     return one;
   }
 
-  async prove(one, id, came, inbox) {
+  async prove(one, id, came, reply) {
     const bytes = await one.pake.turn(came.bytes);
     const { state } = one.pake;
     one.step = came.step;
@@ -97,7 +98,7 @@ export class Host {
       said.push(await this.offer(one.room)); // what it is told from now on is sealed by the key that both have
     }
     one.said = new Uint8Array(await new Blob(said).arrayBuffer());
-    this.lobby.say(inboxSubject(inbox), one.said);
+    this.lobby.say(reply, one.said);
     if (state !== "wrong") return;
     this.knockers.delete(id);
     this.noteWrong();
@@ -124,15 +125,15 @@ export class Host {
 
   async hear(kind, { reply, body }) {
     const inbox = reply === null ? null : readInbox(reply);
-    if (inbox === null) return;
-    if (kind === KINDS.KNOCK && this.isShort && !this.lobby.isReady) await this.hearKnock(body, inbox);
-    if (kind === KINDS.HELLO && !this.isShort) await this.hearHello(body, inbox);
-    if (kind === KINDS.ASK) await this.hearAsk(body, inbox);
+    if (inbox === null && (reply === null || !isOlderInbox(reply))) return;
+    if (kind === KINDS.KNOCK && this.isShort && !this.lobby.isReady) await this.hearKnock(body, reply);
+    if (kind === KINDS.HELLO && !this.isShort) await this.hearHello(body, reply);
+    if (kind === KINDS.ASK && inbox !== null) await this.hearAsk(body, inbox);
   }
 
-  async hearHello(body, inbox) {
+  async hearHello(body, reply) {
     readHello(this.room, body);
-    this.lobby.say(inboxSubject(inbox), await this.offer(this.room));
+    this.lobby.say(reply, await this.offer(this.room));
   }
 
   /** By which room's key somebody asks, and what. */

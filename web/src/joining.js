@@ -1,9 +1,10 @@
 // The side of who joins a lobby, as c/lobby/joining.c has it.
 import { Why } from "./reasons.js";
 import {
-  Asks, DoorSays, KINDS, Says, VERSION, inboxSubject, readAnswer, readKnock, readOffer, roomSubject, writeAsk, writeHello, writeKnock,
+  Asks, DoorSays, KINDS, KNOCK_ID, Says, VERSION, inboxSubject, readAnswer, readKnock, readOffer, roomSubject, writeAsk, writeHello,
+  writeKnock,
 } from "./messages.js";
-import { INBOX, Pair, codeOf, isVouched, roomOf } from "./keys.js";
+import { Pair, codeOf, isVouched, roomOf } from "./keys.js";
 import { Pake } from "./pake.js";
 import { drawn, hex, isSame } from "./bytes.js";
 
@@ -11,6 +12,8 @@ import { drawn, hex, isSame } from "./bytes.js";
 const SAID_AGAIN = 500;
 const SEATED_AGAIN = 2000;
 const NEVER_ANSWERED = 10000;
+const UNANSWERED =
+  "nobody who hosts a match with this code answers: the host is gone, or its game has an older version of this library";
 const Stage = { ASKS_DOOR: 0, KNOCKS: 1, SAYS_HELLO: 2, ASKS_TO_JOIN: 3, HAS_TABLE: 4 };
 
 export class Guest {
@@ -90,7 +93,7 @@ export class Guest {
     }
     this.room = { name: hex(token), key: null };
     this.pake = new Pake(false, this.plate, this.secret);
-    this.knock = { id: drawn(INBOX), step: 1, bytes: await this.pake.turn(new Uint8Array(0)) };
+    this.knock = { id: drawn(KNOCK_ID), step: 1, bytes: await this.pake.turn(new Uint8Array(0)) };
     this.stage = Stage.KNOCKS;
     this.heardAt = this.lobby.now;
     this.sayAgain();
@@ -164,7 +167,7 @@ export class Guest {
     if (!this.lobby.isThere || this.saidAt === null) this.heardAt = now;
     if (now - this.heardAt < NEVER_ANSWERED) return;
     if (this.stage === Stage.ASKS_TO_JOIN) this.lobby.end(Why.HOST_LEFT);
-    else this.lobby.end(Why.NO_SUCH_CODE, "nobody who hosts a match with this code answers");
+    else this.lobby.end(Why.NO_SUCH_CODE, UNANSWERED);
   }
 
   close() {

@@ -4,7 +4,7 @@ import { drawn, hex, isSame, joined, textBytes } from "./bytes.js";
 
 export const KEY = 32;
 export const PROOF = 64;
-export const INBOX = 16;
+export const INBOX = 32; // the key of a user (pass.js)
 const SIGNS = "0123456789ABCDEFGHJKMNPQRSTVWXYZ";
 const CODE_BYTES = 16;
 const CODE_SIGNS = 28;

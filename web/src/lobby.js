@@ -2,13 +2,13 @@
 // they say until the lines are there, and can read none of it. They speak as native machines do (c/lobby), so codes, the door, its
 // relays and the seals are the same. Only the lines are others: a page has no socket, and a native machine no data channel.
 import { Connection, isNobody } from "./broker.js";
-import { drawn } from "./bytes.js";
 import { Door } from "./door.js";
 import { Guest } from "./joining.js";
 import { Host } from "./hosting.js";
-import { INBOX, Pair, drawKeys, readCode } from "./keys.js";
+import { Pair, drawKeys, readCode } from "./keys.js";
 import { Line } from "./line.js";
 import { PAGE, REASONS, Why } from "./reasons.js";
+import { drawUser, readPass, shown } from "./pass.js";
 import { KINDS, MOST_COMMON, MOST_PLAYERS, cleanName, inboxSubject, readSignal, writeSignal } from "./messages.js";
 
 export { Why };
@@ -19,13 +19,13 @@ const MOST_WAITING = 64; // messages
 const MOST_IN_MATCH = 8; // of them in a turn, once a match is played: a liar's are opened in vain, and take its time
 const MOST_EARLY = 24;
 
-/** User and password are in a URL, as in those of native programs; a browser takes them apart from it. */
+/** User and password are in a URL, or a pass alone, as in those of native programs; a browser takes them apart from it. */
 function addressOf(text) {
   if (!/^wss?:\/\//.test(text)) throw new Error("the broker's address is none: wss://HOST:PORT was expected");
   const url = new URL(text);
   const [user, password] = [url.username, url.password].map((it) => (it === "" ? undefined : decodeURIComponent(it)));
   Object.assign(url, { username: "", password: "" });
-  return { url: url.href, user, password };
+  return user !== undefined && password === undefined ? { url: url.href, pass: readPass(user) } : { url: url.href, user, password };
 }
 
 export class Lobby {
@@ -48,14 +48,16 @@ export class Lobby {
     const { broker, name = "", digest, hasDoor = false, servers = null, relayOnly = false, told = () => {} } = how;
     if (globalThis.crypto?.subtle === undefined) throw new Error("a browser seals nothing on this page: it has to come by https");
     const there = () => this.takeTurn();
-    this.connection = new Connection({ ...addressOf(broker), heard: (it) => this.hear(it), there });
+    const { pass = null, ...address } = addressOf(broker);
+    const shows = pass === null ? null : async (nonce) => shown(pass, await this.user, nonce);
+    this.connection = new Connection({ ...address, shows, heard: (it) => this.hear(it), there });
+    this.hasPass = pass !== null;
+    this.user = drawUser();
+    this.user.catch(() => {}); // (who waits for it is told)
     Object.assign(this, { name: cleanName(name) || "a player", digest: BigInt.asUintN(64, digest) ^ PAGE, relayOnly, told });
     Object.assign(this, { lines: new Map(), table: null, early: [], heardRoom: null, thereAt: this.now });
     Object.assign(this, { waiting: 0, heard: 0, lookedAt: 0 });
     Object.assign(this, { isHost: code === null, isOver: false, isReady: false, isAway: false, isClosed: false, isTurnDue: false });
-    this.inbox = drawn(INBOX);
-    this.inboxName = inboxSubject(this.inbox);
-    this.connection.hear(this.inboxName);
     const isShort = code === null ? how.isShort === true : code.plate !== undefined;
     this.door = isShort || hasDoor ? new Door(this, servers === null) : null;
     this.servers = servers ?? [];
@@ -78,6 +80,9 @@ export class Lobby {
   async begin() {
     try {
       this.keys = await drawKeys();
+      this.inbox = (await this.user).open;
+      this.inboxName = inboxSubject(this.inbox);
+      this.connection.hear(this.inboxName);
       await this.door?.begin();
       await this.side.begin();
     } catch {

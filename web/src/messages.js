@@ -1,9 +1,11 @@
 // What machines of a lobby, and the door, say to each other, as bytes: c/lobby/messages.h and c/lobby/door.h have them. What reads
 // throws if it is no such message, or is made by nobody who may.
 import { INBOX, KEY, PROOF, openForAll, openSealed, sealForAll } from "./keys.js";
-import { Reader, Writer, hex, textBytes, unhex } from "./bytes.js";
+import { Reader, Writer, textBytes } from "./bytes.js";
+import { readUser, writeUser } from "./pass.js";
 
-export const VERSION = 1;
+export const VERSION = 2;
+export const KNOCK_ID = 16;
 export const KINDS = { KNOCK: 107, KNOCKED: 110, HELLO: 104, OFFER: 111, ASK: 97, ANSWER: 115, SIGNAL: 103, DOOR: 100 };
 export const Says = { WAITS: 0, SEATED: 1, BEGINS: 2, REFUSED: 3 };
 export const MOST_PLAYERS = 8;
@@ -34,14 +36,14 @@ const readName = (from) => cleanName(from.text(NAME_ROOM));
 
 // ---- Subjects
 
-export const inboxSubject = (inbox) => `faz.in.${hex(inbox)}`;
+export const inboxSubject = (inbox) => `faz.in.${writeUser(inbox)}`;
 export const roomSubject = (room) => `faz.meet.${room.name}`;
 
 /** The inbox of a subject; null if it is none. */
-export function readInbox(subject) {
-  const inbox = subject.startsWith("faz.in.") ? unhex(subject.slice(7)) : null;
-  return inbox?.length === INBOX ? inbox : null;
-}
+export const readInbox = (subject) => (subject.startsWith("faz.in.") ? readUser(subject.slice(7)) : null);
+
+/** Whether it is one of version 1: who hears it is answered, and so told that the version is another one. */
+export const isOlderInbox = (subject) => /^faz\.in\.[0-9a-f]{32}$/.test(subject);
 
 // ---- What gets a key by a short code
 
@@ -52,7 +54,7 @@ export function writeKnock(kind, { id, step, isWrong = false, bytes }) {
 /** `more` is what is behind it. */
 export function readKnock(body) {
   const from = new Reader(body.subarray(1));
-  const [id, step, isWrong, length] = [from.take(INBOX), from.number(1), from.number(1) !== 0, from.number(2)];
+  const [id, step, isWrong, length] = [from.take(KNOCK_ID), from.number(1), from.number(1) !== 0, from.number(2)];
   hold(length < MOST_KNOCK);
   return { id, step, isWrong, bytes: from.take(length), more: from.take(from.left) };
 }

@@ -1,5 +1,6 @@
 """Pages that meet by a code, with a broker, a relay and a door as c/lobby/serve begins them."""
 import contextlib
+import json
 import os
 import re
 import socket
@@ -12,6 +13,7 @@ from pathlib import Path
 from types import SimpleNamespace
 
 from checks import ROOT, WEB, check, has, run, skip
+from passes import Key, Pass
 from driver import driver
 from matches import expected, pages, result
 
@@ -26,15 +28,18 @@ def lacks(what):
 
 
 class Served:
-    """What c/lobby/serve began: `port` is the broker's for programs, and `url` its for pages."""
+    """What c/lobby/serve began: `port` is the broker's for programs, `broker` its URL for these, and `url` that for pages."""
 
     def __init__(self, process, port):
-        self.process, self.port, self.url, self.broker = process, port, f"ws://127.0.0.1:{port + 2}", f"nats://127.0.0.1:{port}"
-        self.folder = None
+        self.process, self.port = process, port
+        said = {"folder": r"its files are in (.*)$", "url": r"pages on this machine: (.*)$",
+                "broker": r"on this machine: --broker (\S*) --door$"}
         for line in process.stdout:
-            found = re.match(r"its files are in (.*)$", line)
-            self.folder = Path(found.group(1)) if found else self.folder
+            for name, text in said.items():
+                if found := re.match(text, line):
+                    setattr(self, name, found.group(1))
             if line.startswith("on this machine"):
+                self.folder = Path(self.folder)
                 return
         raise AssertionError(f"{SERVE} doesn't serve")
 
@@ -214,15 +219,15 @@ def no_way(server, served, kind):
 SECRETS = [b"candidate", b"typ host", b"sdp", b"ice-ufrag", b"webrtc", b"Anna", b"heard"]
 
 
-def conf_of(port):
-    """c/lobby/broker.conf with addresses of this machine."""
-    text = (ROOT / "c/lobby/broker.conf").read_text().replace("203.0.113.10:4222", f"127.0.0.1:{port}")
+def conf_of(name, port):
+    """One of c/lobby's files for brokers with addresses of this machine."""
+    text = (ROOT / "c/lobby" / name).read_text().replace("203.0.113.10:4222", f"127.0.0.1:{port}")
     return text.replace("203.0.113.10:4224", f"127.0.0.1:{port + 2}")
 
 
 @contextlib.contextmanager
-def begun(port, room, conf):
-    """A broker by a file's text, with a door."""
+def begun(port, room, conf, *creds):
+    """A broker by a file's text, with a door that is let in by its creds or else by a password."""
     quiet = {"stdin": subprocess.DEVNULL, "stdout": subprocess.PIPE, "stderr": subprocess.STDOUT, "cwd": room}
     programs = []
     Path(room, "conf").write_text(conf)
@@ -230,7 +235,8 @@ def begun(port, room, conf):
         env = {**os.environ, "DOOR_PASSWORD": "door"}
         programs.append(subprocess.Popen(["nats-server", "-c", "conf"], env=env, **quiet))
         time.sleep(1)
-        programs.append(subprocess.Popen([ROOT / "c/out/faz-door", "--broker", f"nats://127.0.0.1:{port}"], env=env, **quiet))
+        door = [ROOT / "c/out/faz-door", "--broker", f"nats://127.0.0.1:{port}", *creds]
+        programs.append(subprocess.Popen(door, env=env, **quiet))
         programs[-1].stdout.readline()
         yield
     finally:
@@ -241,18 +247,19 @@ def begun(port, room, conf):
 
 @contextlib.contextmanager
 def spied(port):
-    """A broker at which one user hears what all players say: what came."""
-    conf = conf_of(port).replace("PLAYERS: {\n        users: [", "PLAYERS: {\n        users: [ { user: spy, password: spy },")
+    """A broker without inboxes of one's own, at which one user hears what all players say: what came."""
+    conf = conf_of("open.conf", port).replace("PLAYERS: {\n        users: [", "PLAYERS: {\n        users: [ { user: spy, password: spy },")
     conf += f'websocket {{ listen: "127.0.0.1:{port + 2}", no_tls: true }}\n'
     with tempfile.TemporaryDirectory() as room, begun(port, room, conf):
         yield listening(port)
 
 
-def listening(port):
+def listening(port, greets=lambda info: {"user": "spy", "pass": "spy"}, subjects=(">",)):
     """All bytes that a broker hands on from now on: a list to which they are added."""
     spy, heard = socket.create_connection(("127.0.0.1", port)), [b""]
-    spy.recv(65536)
-    spy.sendall(b'CONNECT {"verbose":false,"user":"spy","pass":"spy"}\r\nSUB > 1\r\nPING\r\n')
+    lines = ["CONNECT " + json.dumps({"verbose": False, **greets(spy.recv(65536))})]
+    lines += [f"SUB {subject} {at}" for at, subject in enumerate(subjects)]
+    spy.sendall("\r\n".join([*lines, "PING", ""]).encode())
 
     def listen():
         while more := spy.recv(65536):
@@ -275,45 +282,77 @@ def spies(server, kind, port):
         check(f"nobody reads {it.decode()}", it not in heard[0], str(heard[0]))
 
 
+def strangers(server, served, kind):
+    """Who has the pass, as all players have, hears who knocks at a room, and nothing of what follows."""
+    by, user = Pass(pass_of(served.url)), Key("U")
+    subjects = ["faz.meet.*", "faz.in.*", "faz.in.>", "faz.>", f"faz.in.{user.text}"]
+    heard = listening(served.port, lambda info: by.greeting(info, user), subjects)
+    _, found = met(server, served, (kind, kind), "stranger", {"short": 1})
+    check(f"they meet beside a stranger in {kind}", all(len(it.get("came", [])) == 2 for it in found), str(found))
+    check("the stranger hears the room", heard[0].count(b"MSG faz.meet.") >= 2, str(heard[0]))
+    check("and nothing else", heard[0].count(b"MSG ") == heard[0].count(b"MSG faz.meet."), str(heard[0]))
+    refused = [heard[0].count(f'Permissions Violation for Subscription to "{it}"'.encode()) for it in ["faz.in.*", "faz.in.>", "faz.>"]]
+    check("it is told so", refused == [1, 1, 1], str(heard[0]))
+
+
 # ---- the broker
 
 ASKS = """
-const socket = new WebSocket(arguments[0]);
-window.said = "";
-const lines = ['CONNECT {"verbose":false}', `SUB ${arguments[1]} 1`, "PUB elsewhere 2", "hi", "PING", ""];
-socket.onopen = () => socket.send(lines.join("\\r\\n"));
-socket.onmessage = async ({ data }) => (window.said += await data.text());
+const [url, pass, subject] = arguments;
+const said = (window.said ??= {});
+said[subject] = "";
+import("/site/fazgrond/pass.js").then(async ({ drawUser, readPass, shown }) => {
+  const user = await drawUser();
+  const socket = new WebSocket(url);
+  const lines = [`SUB ${subject} 1`, "PUB elsewhere 2", "hi", "PING", ""];
+  socket.binaryType = "arraybuffer";
+  socket.onmessage = async ({ data }) => {
+    const text = new TextDecoder().decode(data), greets = said[subject] === "";
+    said[subject] += text;
+    if (!greets) return;
+    const told = { verbose: false, ...(await shown(readPass(pass), user, JSON.parse(text.slice(5)).nonce)) };
+    socket.send([`CONNECT ${JSON.stringify(told)}`, ...lines].join("\\r\\n"));
+  };
+});
 """
+
+
+def pass_of(url):
+    return urllib.parse.urlsplit(url).username
 
 
 def rights(server, served, kind):
     """A page may no more at the broker than a program."""
+    url = served.url.replace(f"{pass_of(served.url)}@", "")
     with driver(kind) as one:
         one.go(f"{server.url}/site/index.html")
-        for subject in [">", "faz.>", "faz.*.*", "$SYS.>"]:
-            one.run(ASKS, served.url, subject)
-            one.wait("return window.said.includes('Permissions Violation for Publish')", 20)
-            said = one.run("return window.said")
-            check(f"hearing {subject} from a page", "Permissions Violation for Subscription" in said, said)
+        for subject in [">", "faz.>", "faz.*.*", "$SYS.>", "faz.in.*", f"faz.in.{Key('U').text}"]:
+            one.run(ASKS, url, pass_of(served.url), subject)
+            one.wait(f"return window.said[{subject!r}].includes('PONG')", 20)
+            said = one.run(f"return window.said[{subject!r}]")
+            are_refused = f'Permissions Violation for Subscription to "{subject}"' in said and "Permissions Violation for Publish" in said
+            check(f"hearing {subject} from a page", are_refused, said)
 
 
 def over_tls(server, kind, port):
     """By the block for pages in c/lobby/broker.conf: its commented lines, and a certificate of one's own."""
-    block = re.search(r"^# (websocket \{\n(?:#.*\n)*?)# \}$", conf_of(port), re.M)
+    conf = conf_of("broker.conf", port)
+    block = re.search(r"^# (websocket \{\n(?:#.*\n)*?)# \}$", conf, re.M)
     assert block, "broker.conf has no block for pages"
-    conf = conf_of(port).replace(block.group(), re.sub(r"^# ", "", block.group(), flags=re.M))
+    conf = conf.replace(block.group(), re.sub(r"^# ", "", block.group(), flags=re.M))
     with tempfile.TemporaryDirectory() as room:
         made = run(["openssl", "req", "-x509", "-newkey", "ec", "-pkeyopt", "ec_paramgen_curve:prime256v1", "-nodes", "-keyout",
                     f"{room}/key.pem", "-out", f"{room}/it.pem", "-days", "2", "-subj", "/CN=localhost"])
         assert made.returncode == 0, made.stdout
         conf = conf.replace("/etc/ssl/certs/broker.pem", f"{room}/it.pem").replace("/etc/ssl/private/broker.key", f"{room}/key.pem")
-        served = SimpleNamespace(url=f"wss://127.0.0.1:{port + 2}")
-        with begun(port, room, conf), driver(kind, believes=True) as one, driver(kind, believes=True) as other:
+        served = SimpleNamespace(url=f"wss://{run([ROOT / 'c/out/faz-operator', room]).stdout.strip()}@127.0.0.1:{port + 2}")
+        creds = ["--creds", f"{room}/door.creds"]
+        with begun(port, room, conf, *creds), driver(kind, believes=True) as one, driver(kind, believes=True) as other:
             one.go(url_of(server, served, "tls-0", short=1))
             other.go(url_of(server, served, "tls-1", join=code_of(server, "tls-0")))
             found = [result(server, f"tls-{me}", WAIT) for me in range(2)]
             check(f"over TLS in {kind}", all(len(it.get("came", [])) == 2 for it in found), str(found))
-        with begun(port, room, conf), pages((kind, url_of(server, served, "unknown", short=1))):
+        with begun(port, room, conf, *creds), pages((kind, url_of(server, served, "unknown", short=1))):
             time.sleep(6)
             check(f"a certificate that nobody knows in {kind}", "unknown-code-1" not in server.post.texts)
     server.post.clear("tls-0", "tls-1", "tls-0-code-1")
@@ -415,11 +454,15 @@ def by_address(server, served, kind):
         other.wait_until_told("the host's player said no", 20)
         for text, said in [("nonsense!", "this is no code"), ("", "this is no code")]:
             other.fill("their-code", text)
+            other.forget()
             other.click("join")
             other.wait_until_told(said, 20)
         other.fill("meet-broker", "nats://127.0.0.1:4222")
         other.click("host")
         other.wait_until_told("wss://HOST:PORT was expected", 20)
+        other.fill("meet-broker", "ws://nonsense@127.0.0.1:9")
+        other.click("host")
+        other.wait_until_told("the pass in the broker's address can't be read", 20)
         other.fill("meet-broker", "ws://127.0.0.1:9")
         other.click("host")
         other.wait_until_told("waiting: no broker is there yet", 20)
@@ -486,6 +529,7 @@ def by_codes(server, kinds, port):
                  lambda served: [by_address(server, served, it) for it in kinds],
                  lambda served: [two_ask(server, served, it) for it in kinds],
                  lambda served: [no_way(server, served, kind) for kind in kinds],
+                 lambda served: [strangers(server, served, kind) for kind in kinds],
                  lambda served: [rights(server, served, kind) for kind in kinds]]:
         with serving(port) as served:  # (the door counts who asks: each part has a door of its own)
             part(served)

@@ -68,6 +68,10 @@ class Driver:
         """Waits until the page tells something with these words."""
         self.wait(f"return {TOLD}.includes({json.dumps(what)})", seconds)
 
+    def forget(self):
+        """Takes away what the page has told: the next words are its answer to what follows."""
+        self.run("document.getElementById('told').textContent = ''")
+
     def click(self, name):
         self.run("document.getElementById(arguments[0]).click()", name)
 

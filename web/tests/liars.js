@@ -2,7 +2,7 @@
 // writes is a check that failed, and the last one says how many there were.
 import { N, Pake } from "./src/pake.js";
 import {
-  Asks, DOOR, KINDS, Says, inboxSubject, openAsk, readAsk, readKnock, writeAnswer, writeHello, writeKnock, writeOffer,
+  Asks, DOOR, KINDS, Says, VERSION, inboxSubject, openAsk, readAsk, readKnock, readOffer, writeAnswer, writeHello, writeKnock, writeOffer,
 } from "./src/messages.js";
 import { Connection } from "./src/broker.js";
 import { Door } from "./src/door.js";
@@ -12,6 +12,7 @@ import { Line } from "./src/line.js";
 import { Lobby } from "./src/lobby.js";
 import { bytesOf, drawn, joined, textBytes } from "./src/bytes.js";
 import { Pair, codeOf, drawHost, drawKeys, readCode, roomOf, sealForAll } from "./src/keys.js";
+import { readUser } from "./src/pass.js";
 
 const counts = { checks: 0, failed: 0 };
 const NOTHING = new Uint8Array(0);
@@ -126,7 +127,8 @@ async function lobbyOf() {
   lobby.begins = (table) => Object.assign(lobby, { table });
   lobby.hearRoom = () => {};
   lobby.connection = { hear() {} };
-  return Object.assign(lobby, { keys: await drawKeys(), inbox: drawn(16), door: new Door(lobby, false) });
+  const inbox = drawn(32);
+  return Object.assign(lobby, { keys: await drawKeys(), inbox, inboxName: inboxSubject(inbox), door: new Door(lobby, false) });
 }
 
 // ---- Who answers in the place of a host
@@ -140,7 +142,7 @@ async function forgedOffers() {
   const guest = new Guest(lobby, { code });
   await guest.begin();
   const says = async (it, by, vouched) => {
-    const body = writeOffer(room, { host: it.host, speaks: speaks.open, proof: await by.vouch(vouched), inbox: drawn(16) });
+    const body = writeOffer(room, { host: it.host, speaks: speaks.open, proof: await by.vouch(vouched), inbox: drawn(32) });
     await guest.hear(KINDS.OFFER, { body });
     return lobby.said.length;
   };
@@ -158,7 +160,7 @@ async function forgedTables({ lobby, guest, room, speaks, host, code }) {
   check("who asks", readAsk(pair, rest).name, "Anna");
   const stranger = (await drawKeys()).open;
   const answers = (counter, me, opens, more = {}) => {
-    const members = opens.map((it) => ({ open: it, inbox: drawn(16), name: "it" }));
+    const members = opens.map((it) => ({ open: it, inbox: drawn(32), name: "it" }));
     const table = { me, players: 2, owners: [0, 1], number: 7n, key: drawn(32), code, host: host.host, members, common: NOTHING, ...more };
     table.proof = drawn(64);
     return guest.hear(KINDS.ANSWER, { body: writeAnswer(pair, { counter, says: Says.BEGINS, name: "Ben", table }) });
@@ -208,11 +210,11 @@ async function knocks(lobby, guest, bytes) {
   const reply = inboxSubject(guest.inbox);
   const said = lobby.said.length;
   await lobby.side.turn(lobby.now);
-  await lobby.side.hear(KINDS.KNOCK, { reply, body: writeKnock(KINDS.KNOCK, { id: guest.inbox, step: ++guest.knocks, bytes }) });
+  await lobby.side.hear(KINDS.KNOCK, { reply, body: writeKnock(KINDS.KNOCK, { id: guest.id, step: ++guest.knocks, bytes }) });
   return lobby.said.length > said ? readKnock(lobby.said.at(-1).body) : null;
 }
 
-const stranger = (secret) => Object.assign(new Pake(false, PLATE, secret), { inbox: drawn(16), knocks: 0 });
+const stranger = (secret) => Object.assign(new Pake(false, PLATE, secret), { inbox: drawn(32), id: drawn(16), knocks: 0 });
 const otherThan = (secret) => (secret === "0000" ? "0001" : "0000");
 
 /** However many try at once, five tries are all. */
@@ -230,6 +232,22 @@ async function triesAtOnce() {
   }
   check("tries of those at once", wrong, 5);
   check("then there is another secret", before !== lobby.side.secret && lobby.side.plate === "", true);
+}
+
+/** Who says again what another one knocked with isn't told what that one is told. */
+async function knocksAgain() {
+  const lobby = await hosting();
+  const [guest, other] = [stranger(lobby.side.secret), drawn(32)];
+  const first = await knocks(lobby, guest, await guest.turn(NOTHING));
+  const said = lobby.said.length;
+  const again = async (inbox) => {
+    const body = writeKnock(KINDS.KNOCK, { id: guest.id, step: 1, bytes: NOTHING });
+    await lobby.side.hear(KINDS.KNOCK, { reply: inboxSubject(inbox), body });
+    return lobby.said.length - said;
+  };
+  check("who knocks", first !== null, true);
+  check("who knocks by another one's word", await again(other), 0);
+  check("who knocks again", await again(guest.inbox), 1);
 }
 
 /** Who says nothing more has had a try too. */
@@ -269,9 +287,9 @@ class Socket {
   static OPEN = 1;
   readyState = 1;
 
-  constructor() {
+  constructor(url) {
     Socket.last = this;
-    this.sent = [];
+    Object.assign(this, { url, sent: [] });
   }
 
   send(bytes) {
@@ -308,7 +326,7 @@ async function flood() {
   await lobby.work;
   const room = roomOf(readCode(events.find((it) => it.what === "code").text).code);
   const hello = writeHello(room, drawn(32));
-  const greeting = [`MSG faz.meet.${room.name} 1 ${inboxSubject(drawn(16))} ${hello.length}\r\n`, hello, "\r\n"];
+  const greeting = [`MSG faz.meet.${room.name} 1 ${inboxSubject(drawn(32))} ${hello.length}\r\n`, hello, "\r\n"];
   let turns = 0;
   const { turn } = lobby.side;
   lobby.side.turn = (now) => {
@@ -356,6 +374,95 @@ function endless() {
   connection.close();
 }
 
+// ---- A broker that wants to be shown something
+
+const textOf = (socket) => socket.sent.map((it) => new TextDecoder().decode(it)).join("");
+const soon = () => new Promise((resolve) => setTimeout(resolve, 20));
+
+/** Nothing is said before what is shown, which takes a moment; and nothing by a connection that has ended meanwhile. */
+async function greetings() {
+  const asked = [];
+  const shows = (nonce) => new Promise((resolve) => asked.push({ nonce, resolve }));
+  const connection = new Connection({ url: "ws://127.0.0.1:1", shows, heard() {} });
+  connection.hear("faz.in.x");
+  const first = Socket.last;
+  connection.look();
+  first.says('INFO {"nonce":"it is"}\r\n', "INFO {}\r\n");
+  connection.look();
+  connection.hear("faz.in.y");
+  check("what is said before a greeting", textOf(first), "");
+  check("what is to be signed", asked.map((it) => it.nonce).join(), "it is");
+  asked[0].resolve({ jwt: "a token", sig: "signed" });
+  await soon();
+  const [greeting, ...others] = textOf(first).split("\r\n");
+  const { jwt, sig, user } = JSON.parse(greeting.slice(8));
+  check("what is shown", `${greeting.slice(0, 7)} ${jwt} ${sig} ${user}`, "CONNECT a token signed undefined");
+  check("what is said behind it", others.join(), "SUB faz.in.x 1,SUB faz.in.y 2,PING,");
+  first.says("-ERR 'Authorization Violation'\r\n");
+  check("a pass that isn't taken", connection.why, "the broker doesn't take this pass");
+  connection.connect();
+  const second = Socket.last;
+  second.says("INFO nonsense\r\n");
+  connection.connect();
+  asked[1].resolve({ jwt: "late" });
+  await soon();
+  check("what is said to a broker that is gone", textOf(second) + textOf(Socket.last), "");
+  connection.close();
+}
+
+/** A page's lobby with a pass: its socket isn't told that, and it hears inboxes of its own user alone. */
+async function withPass() {
+  const pass = "SAAEHIWEKULOERSUIWN3EZG5SQZ5MIZRPODLROKQ5HPRVG7BPIGWX5BNLUAD7OCQWUVVK24WTX3JI3EPIZNFHTDO2ZQ35HV2K4PB2QUO7OBZ5WATY6";
+  const opened = (broker) => {
+    try {
+      const lobby = Lobby.host({ broker, digest: 1n, hasDoor: true });
+      return Object.assign(lobby, { socket: Socket.last });
+    } catch (why) {
+      return why.message;
+    }
+  };
+  for (const wrong of [pass.slice(1), `A${pass}`, `${pass.slice(0, -1)}7`, pass.toLowerCase(), "secret"])
+    check(`the pass ${wrong}`, String(opened(`wss://${wrong}@127.0.0.1:1`)).includes("pass in the broker's address can't be read"), true);
+  const lobby = opened(`wss://${pass}@127.0.0.1:1`);
+  check("what a socket is told", lobby.socket.url, "wss://127.0.0.1:1/");
+  lobby.socket.says('INFO {"nonce":"n"}\r\n');
+  await lobby.work;
+  await soon();
+  const user = /SUB faz\.in\.(U\w+) /.exec(textOf(lobby.socket))[1];
+  const subjects = [...textOf(lobby.socket).matchAll(/SUB (\S+) /g)].map((it) => it[1]);
+  check("what it hears", subjects.slice(0, 2).join(), `faz.in.${user},faz.in.${user}.door`);
+  check("and a room", subjects.length === 3 && subjects[2].startsWith("faz.meet."), true);
+  const { sub } = JSON.parse(atob(JSON.parse(textOf(lobby.socket).split("\r\n")[0].slice(8)).jwt.split(".")[1]));
+  check("whose token it shows", sub, user);
+  const other = opened("ws://user:word@127.0.0.1:1");
+  await other.work;
+  check("a user and a password", `${other.connection.user} ${other.connection.password} ${other.connection.shows}`, "user word null");
+  check("each lobby has a user of its own", other.inboxName !== lobby.inboxName && readUser(user) !== null, true);
+  lobby.close();
+  other.close();
+}
+
+/** Who says hello by version 1 is offered this version, in an inbox of version 1; who wants an answer elsewhere gets none. */
+async function older() {
+  const lobby = await lobbyOf();
+  lobby.side = new Host(lobby, {});
+  await lobby.side.begin();
+  const { room } = lobby.side;
+  const body = writeHello(room, drawn(32));
+  const inbox = `faz.in.${"0123456789abcdef".repeat(2)}`;
+  const answered = async (reply) => {
+    const said = lobby.said.length;
+    await lobby.side.hear(KINDS.HELLO, { reply, body });
+    return lobby.said.slice(said).map((it) => it.subject).join();
+  };
+  check("an older friend", await answered(inbox), inbox);
+  check("what it is told", readOffer(room, lobby.said.at(-1).body).version, VERSION);
+  const now = inboxSubject(drawn(32));
+  check("a friend of now", await answered(now), now);
+  for (const reply of [null, `${inbox}0`, "faz.in.>", "faz.meet.x", inbox.toUpperCase(), `${now}.door`, now.slice(0, -1), `${now}A`])
+    check(`an answer to ${reply}`, await answered(reply), "");
+}
+
 // ---- Who plays along
 
 class PeerConnection {
@@ -391,10 +498,14 @@ await moreThanDue();
 await forgedOffers();
 longMessages();
 await triesAtOnce();
+await knocksAgain();
 await triesUnshown();
 await triesInAMatch();
 await flood();
 endless();
+await greetings();
+await withPass();
+await older();
 await ways();
 console.log(`${counts.checks} checks, ${counts.failed} failed`);
 process.exit(counts.failed > 0 ? 1 : 0);

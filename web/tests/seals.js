@@ -6,6 +6,7 @@ import readline from "node:readline";
 import { blake2b, hchacha20, open, openBox, poly1305, seal } from "./src/crypt.js";
 import { hex, unhex } from "./src/bytes.js";
 import { Pair, codeOf, readCode, roomOf, writeCode } from "./src/keys.js";
+import { readPass, readUser, shown, writeUser } from "./src/pass.js";
 import { Pake } from "./src/pake.js";
 
 const [cases, side] = process.argv.slice(2);
@@ -121,9 +122,49 @@ async function pairs(keys) {
   }
 }
 
+/** What a text is read as, or that it is refused. */
+function readOr(read, text) {
+  try {
+    return read(text) === null ? "refused" : "read";
+  } catch {
+    return "refused";
+  }
+}
+
+/** With each sign another one, and with one too many or too few. */
+function slipsOf(what, read, text) {
+  const signs = "ABCDEFGHIJKLMNOPQRSTUVWXYZ234567";
+  let taken = 0;
+  for (let at = 0; at < text.length; at++) {
+    const other = signs[(signs.indexOf(text[at]) + 1 + Math.floor(Math.random() * 31)) % 32];
+    for (const wrong of [other, text[at].toLowerCase(), "=", ""])
+      if (wrong !== text[at] && readOr(read, text.slice(0, at) + wrong + text.slice(at + 1)) === "read") taken++;
+  }
+  check(`${what} as it is`, readOr(read, text), "read");
+  check(`${what} with a slip of the pen`, taken, 0);
+  check(`${what} with a sign behind it`, readOr(read, `${text}A`), "refused");
+}
+
+/** What is shown to a broker by a pass. */
+async function passes(cases) {
+  const documented = "UDXU4RCSJNZOIQHZNWXHXORDPRTGNJAHAHFRGZNEEJCPQTT2M7NLCNF4"; // by NATS
+  check("a user's key", writeUser(readUser(documented)), documented);
+  slipsOf("a user's key", readUser, documented);
+  slipsOf("a pass", readPass, cases[0].pass);
+  check("a pass of users", readOr(readPass, cases[0].user), "refused");
+  for (const { pass, seed, open, nonce, jwt, sig } of cases) {
+    const pkcs = Uint8Array.from([...unhex("302e020100300506032b657004220420"), ...unhex(seed)]);
+    const secret = await crypto.subtle.importKey("pkcs8", pkcs, { name: "Ed25519" }, false, ["sign"]);
+    const found = await shown(readPass(pass), { open: unhex(open), secret }, nonce);
+    check("a token", found.jwt, jwt);
+    check("a signed nonce", found.sig, sig);
+  }
+}
+
 const given = JSON.parse(fs.readFileSync(cases, "utf8"));
 for (const [what, does] of Object.entries(DOES)) for (const it of given[what] ?? []) check(what, ...does(bytesOf(it)));
 await pairs(given.pairs);
+await passes(given.passes);
 slips(given.code);
 await proofs();
 console.log(`${counts.checks} checks, ${counts.failed} failed`);

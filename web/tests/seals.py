@@ -9,6 +9,7 @@ from checks import ROOT, WEB, check, has, run, skip
 
 sys.path.insert(0, str(WEB))
 import meet  # noqa: E402
+import passes  # noqa: E402
 
 LENGTHS = [0, 1, 15, 16, 17, 63, 64, 65, 127, 128, 129, 255, 256, 1000, 5000]
 
@@ -72,6 +73,17 @@ def pairs(sodium):
     return found
 
 
+def shown():
+    """What users show who have a pass, by a program of its own, which c/lobby/test has too."""
+    found = []
+    for at in range(4):
+        signer, user, account = passes.Key("A"), passes.Key("U"), passes.Key("A").text
+        it = passes.Pass(signer.seed_text + account).greeting(b'INFO {"nonce":"%d-of-a-broker"}' % at, user)
+        found.append({"pass": signer.seed_text + account, "user": user.seed_text + account, "seed": user.seed, "open": passes.open_of(user.seed),
+                      "nonce": f"{at}-of-a-broker", **it})
+    return found
+
+
 def digits(it):
     return {name: value.hex() if isinstance(value, bytes) else value for name, value in it.items()}
 
@@ -81,7 +93,7 @@ def cases(sodium):
     found = {"hash": [{"bytes": b"abc", "key": b"", "due": ABC}, *hashes()], "poly1305": [POLY], "hchacha20": [HCHACHA],
              "seal": all_sealed, "open": all_sealed, "open what was changed": all_sealed, "open by another kind": all_sealed, "box": all_boxes,
              "a box that was changed": all_boxes, "code": all_codes, "a code that is read": all_codes, "a room's name": all_codes,
-             "a room's key": all_codes, "pairs": pairs(sodium)}
+             "a room's key": all_codes, "pairs": pairs(sodium), "passes": shown()}
     return {what: [digits(it) for it in of] for what, of in found.items()}
 
 
@@ -96,6 +108,19 @@ def native_side(room):
     return [room / "pake_side"] if check("pake_side.c compiles", made.returncode == 0, made.stdout) else []
 
 
+def bridge_agrees(sodium):
+    """The bridge shows the same, and takes no pass with a slip of the pen."""
+    for it in shown():
+        user = passes.key_text("U", it["open"])
+        check("a token of the bridge", meet.Pass(it["pass"]).token(sodium, user) == it["jwt"], str(it))
+        slip = it["pass"][:9] + ("A" if it["pass"][9] != "A" else "B") + it["pass"][10:]
+        for wrong in [it["pass"][1:], it["pass"] + "A", it["pass"].lower(), it["user"], slip, ""]:
+            try:
+                check("a pass with a slip of the pen", False, meet.Pass(wrong))
+            except meet.Failed:
+                pass
+
+
 def seals_agree(room):
     if not has("node", "what lobbies of pages seal"):
         return
@@ -104,6 +129,7 @@ def seals_agree(room):
     except meet.Failed as why:
         skip(f"what lobbies of pages seal ({why})")
         return
+    bridge_agrees(sodium)
     shutil.copytree(WEB / "src", room / "src")
     for name in ["seals.js", "liars.js"]:
         shutil.copy(WEB / "tests" / name, room)

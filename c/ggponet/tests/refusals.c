@@ -260,6 +260,27 @@ static void refused_rejoins(void) {
     end();
 }
 
+/* Nobody plays a player in a match that isn't open yet, and into which others come; of a machine all players are vacant or none. */
+static void refused_vacancies(void) {
+    MUST(fazggpo_set_vacant(NULL, 1) == GGPO_ERRORCODE_INVALID_SESSION);
+    MUST(ggpo_start_session(&game.session, &calls, name, 3, sizeof(int), 0) == GGPO_OK);
+    MUST(add(GGPO_PLAYERTYPE_LOCAL, 1, NULL) == GGPO_OK && add(GGPO_PLAYERTYPE_REMOTE, 2, "127.0.0.1") == GGPO_OK);
+    MUST(fazggpo_set_vacant(game.session, 2) == GGPO_ERRORCODE_INVALID_REQUEST);
+    MUST(fazggpo_rejoin(game.session) == GGPO_OK);
+    MUST(fazggpo_set_vacant(game.session, 3) == GGPO_ERRORCODE_INVALID_PLAYER_HANDLE);
+    MUST(fazggpo_set_vacant(game.session, 2) == GGPO_OK && fazggpo_set_vacant(game.session, 2) == GGPO_OK);
+    MUST(add(GGPO_PLAYERTYPE_REMOTE, 3, "127.0.0.1") == GGPO_OK && ggpo_idle(game.session, 0) == GGPO_OK);
+    MUST(fazggpo_set_vacant(game.session, 3) == GGPO_ERRORCODE_UNSUPPORTED);
+    MUST(ggpo_disconnect_player(game.session, 2) == GGPO_ERRORCODE_PLAYER_DISCONNECTED);
+    end();
+    MUST(ggpo_start_session(&game.session, &calls, name, 3, sizeof(int), 0) == GGPO_OK && fazggpo_rejoin(game.session) == GGPO_OK);
+    MUST(add(GGPO_PLAYERTYPE_LOCAL, 1, NULL) == GGPO_OK && add(GGPO_PLAYERTYPE_REMOTE, 2, "127.0.0.1") == GGPO_OK);
+    MUST(add(GGPO_PLAYERTYPE_LOCAL, 3, NULL) == GGPO_OK && fazggpo_set_vacant(game.session, 3) == GGPO_OK);
+    MUST(ggpo_idle(game.session, 0) == GGPO_ERRORCODE_INVALID_REQUEST);
+    MUST(fazggpo_set_vacant(game.session, 1) == GGPO_OK && ggpo_idle(game.session, 0) == GGPO_OK);
+    end();
+}
+
 #ifndef _WIN32 /* whose random source can't be taken away */
 /* In the place of the system's random source, which may have none. */
 static bool has_no_random;
@@ -375,6 +396,7 @@ int main(void) {
     refused_watchers();
     late_spectator();
     refused_rejoins();
+    refused_vacancies();
 #ifndef _WIN32
     nothing_random();
 #endif

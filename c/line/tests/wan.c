@@ -1,8 +1,8 @@
 /* An internet between network namespaces: wan NAMESPACE,DEVICE,MILLISECONDS,ADDRESS[,NETWORK..]..
  *
  * It makes a TUN device in each namespace, and carries packets from one to the other by their addresses, each so many milliseconds
- * late at either end. ADDRESS is the device's, of IPv4; what is for a NETWORK, as 2001:db8:1::/48, goes to it too. On its standard
- * input it takes lines:
+ * late at either end. ADDRESS is the device's, of IPv4; what is for a NETWORK, as 2001:db8:1::/48, goes to it too. What a device
+ * sends to its own networks comes back to it at once. On its standard input it takes lines:
  *
  *     loss DEVICE PERCENT [FAMILY]     so many of the packets of a device are lost; with 4 or 6 those of IPv4 or IPv6 alone
  *     longest                          writes how many bytes the longest packet of IPv4, and of IPv6, had since this was asked last
@@ -154,13 +154,13 @@ static int side_of(const uint8_t *bytes, size_t length) {
 static void take(int from, const uint8_t *bytes, size_t length, uint64_t now) {
     int to = side_of(bytes, length);
     int family = to >= 0 && bytes[0] >> 4 == 6;
-    if (to < 0 || to == from || rand() % 100 < sides[from].loss[family] || rand() % 100 < sides[to].loss[family])
+    if (to < 0 || rand() % 100 < sides[from].loss[family] || rand() % 100 < sides[to].loss[family])
         return;
     road *by = &roads[from][to];
     if (by->last - by->first == QUEUE || (by->ring == NULL && (by->ring = calloc(QUEUE, sizeof *by->ring)) == NULL))
         return;
     packet *one = &by->ring[by->last++ % QUEUE];
-    one->due = now + sides[from].delay + sides[to].delay;
+    one->due = to == from ? now : now + sides[from].delay + sides[to].delay;
     one->length = length;
     memcpy(one->bytes, bytes, length);
     if (length > longest[family])

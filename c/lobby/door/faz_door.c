@@ -13,8 +13,9 @@
 
 static const char usage[] =
     "faz-door [OPTIONS]    draws short codes, and gives out users of relays, beside a broker (docs/ONLINE.md)\n"
-    "Its password at the broker, as the user `door`, is in the environment: DOOR_PASSWORD.\n"
     "  --broker URL         where it is asked (nats://127.0.0.1:4222)\n"
+    "  --creds FILE         what faz-operator made for it, by which the broker lets it in. At one of c/lobby/open.conf it is the user\n"
+    "                       `door`, whose password is in the environment: DOOR_PASSWORD\n"
     "  --trusted FILE       certificates by which that is believed\n"
     "  --stun ADDRESS[:PORT]      --relay ADDRESS[:PORT]  --second ADDRESS[:PORT]    servers as those who ask are told\n"
     "  --secret FILE        that of the relays, with a line static-auth-secret=..\n"
@@ -48,7 +49,7 @@ typedef struct address {
 } address;
 
 static struct {
-    const char *broker, *trusted, *stun, *relay, *second, *secret_file;
+    const char *broker, *creds, *trusted, *stun, *relay, *second, *secret_file;
     long hours, tries;
     char secret[DOOR_WORD];
     lobby_words words[2];
@@ -208,7 +209,7 @@ static void put_servers(door_answer *answer) {
     static lobby_words words;
     if (self.stun != NULL && stun.stun == NULL) {
         words = (lobby_words){.broker = self.broker, .stun = self.stun};
-        lobby_words_read(&words, &stun);
+        faz_lobby_words_read(&words, &stun);
     }
     const faz_lobby_settings *from = self.stun != NULL ? &stun : &self.servers[0];
     snprintf(answer->stun, sizeof answer->stun, "%s", from->stun != NULL ? from->stun : "");
@@ -251,22 +252,35 @@ static void answer(natsConnection *broker, natsMsg *message) {
         natsConnection_Publish(broker, reply, out, (int)length);
 }
 
-static natsStatus reach(natsConnection **broker) {
-    natsOptions *options = NULL;
-    natsStatus status = natsOptions_Create(&options);
-    if (status == NATS_OK)
-        status = natsOptions_SetURL(options, self.broker);
+static natsStatus set_options(natsOptions *options) {
+    natsStatus status = natsOptions_SetURL(options, self.broker);
     if (status == NATS_OK && strstr(self.broker, "tls://") != NULL)
         status = natsOptions_SetSecure(options, true);
     if (status == NATS_OK && self.trusted != NULL)
         status = natsOptions_LoadCATrustedCertificates(options, self.trusted);
-    if (status == NATS_OK && getenv("DOOR_PASSWORD") != NULL)
+    if (status == NATS_OK && self.creds != NULL)
+        status = natsOptions_SetUserCredentialsFromFiles(options, self.creds, NULL);
+    else if (status == NATS_OK && getenv("DOOR_PASSWORD") != NULL)
         status = natsOptions_SetUserInfo(options, "door", getenv("DOOR_PASSWORD"));
     natsOptions_SetMaxReconnect(options, -1);
     natsOptions_SetReconnectWait(options, WAIT);
-    natsOptions_SetRetryOnFailedConnect(options, true, NULL, NULL);
+    return status;
+}
+
+/* A broker that isn't there is waited for, but not one that doesn't let this door in. */
+static natsStatus reach(natsConnection **broker) {
+    natsOptions *options = NULL;
+    bool has_waited = false;
+    natsStatus status = natsOptions_Create(&options);
     if (status == NATS_OK)
-        status = natsConnection_Connect(broker, options);
+        status = set_options(options);
+    while (status == NATS_OK && (status = natsConnection_Connect(broker, options)) != NATS_OK && status != NATS_CONNECTION_AUTH_FAILED) {
+        if (!has_waited)
+            fprintf(stderr, "faz-door: waits for the broker (%s)\n", natsStatus_GetText(status));
+        has_waited = true;
+        nats_Sleep(WAIT);
+        status = NATS_OK;
+    }
     natsOptions_Destroy(options);
     return status;
 }
@@ -287,7 +301,8 @@ static int serve(void) {
             answer(broker, message);
         natsMsg_Destroy(message);
     }
-    fprintf(stderr, "faz-door: %s\n", natsStatus_GetText(status));
+    fprintf(stderr, "faz-door: %s\n",
+            status == NATS_CONNECTION_AUTH_FAILED ? "the broker doesn't let this door in" : natsStatus_GetText(status));
     natsSubscription_Destroy(asked);
     natsConnection_Destroy(broker);
     return 1;
@@ -314,23 +329,31 @@ static bool read_secret(void) {
     return self.secret[0] != 0;
 }
 
+static bool can_read(const char *name) {
+    FILE *file = fopen(name, "r");
+    if (file != NULL)
+        fclose(file);
+    return file != NULL;
+}
+
 static const char *read_servers(void) {
     const char *const texts[2] = {self.relay, self.second};
     lobby_words stun = {.broker = self.broker, .stun = self.stun};
     faz_lobby_settings settings = {0};
     for (int at = 0; at < 2; at++) {
         self.words[at] = (lobby_words){.broker = self.broker, .stun = texts[at]};
-        if (lobby_words_read(&self.words[at], &self.servers[at]) != NULL)
+        if (faz_lobby_words_read(&self.words[at], &self.servers[at]) != NULL)
             return "a relay has no ADDRESS:PORT";
     }
-    return lobby_words_read(&stun, &settings) != NULL ? "--stun has no ADDRESS:PORT" : NULL;
+    return faz_lobby_words_read(&stun, &settings) != NULL ? "--stun has no ADDRESS:PORT" : NULL;
 }
 
 int main(int count, char **words) {
     const option options[] = {
         {"--broker", NULL, &self.broker, NULL}, {"--trusted", NULL, &self.trusted, NULL}, {"--stun", NULL, &self.stun, NULL},
         {"--relay", NULL, &self.relay, NULL},   {"--second", NULL, &self.second, NULL},   {"--secret", NULL, &self.secret_file, NULL},
-        {"--hours", &self.hours, NULL, NULL},   {"--tries", &self.tries, NULL, NULL},     {NULL, NULL, NULL, NULL}};
+        {"--hours", &self.hours, NULL, NULL},   {"--tries", &self.tries, NULL, NULL},     {"--creds", NULL, &self.creds, NULL},
+        {NULL, NULL, NULL, NULL}};
     if (read_options(words, options) != count || self.hours < 1 || self.hours > 8760 || self.tries < 1)
         return fail("these words can't be read");
     const char *why = read_servers();
@@ -338,6 +361,8 @@ int main(int count, char **words) {
         return fail(why);
     if (sodium_init() < 0)
         return fail("the system gives no random numbers");
+    if (self.creds != NULL && !can_read(self.creds))
+        return fail("the file of --creds can't be read");
     if ((self.relay != NULL) != (self.secret_file != NULL) || (self.secret_file != NULL && !read_secret()))
         return fail("relays need --secret, with a line static-auth-secret=..");
     randombytes_buf(self.hash_key, sizeof self.hash_key);

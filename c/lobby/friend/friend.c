@@ -30,6 +30,7 @@ static const char usage[] =
     "  --relay-only     the others don't see this machine's address\n"
     "  --rejoin         all say it: if this program stops, it is begun again by --join and the code that it tells then, and the\n"
     "                   games go on. Who has that code comes in the place of a machine that is silent\n"
+    "  --begin-with N   with --host and --rejoin: goes on once N machines are there, and the others may come at any time\n"
     "  --trusted FILE   the certificates by which the broker is believed\n";
 
 /* Keeps machines of another program out. */
@@ -86,7 +87,8 @@ static bool open_friend(uint32_t machine) {
     *it = (friend){ .socket = socket(AF_INET, SOCK_DGRAM, 0), .game = loopback(1, self.port) };
     if (it->socket < 0 || bind(it->socket, (struct sockaddr *)&here, sizeof here) != 0 || fcntl(it->socket, F_SETFL, O_NONBLOCK) != 0)
         return false;
-    printf("127.0.0.%" PRIu32 ":%ld is %s\n", FIRST + machine, self.friends_port, self.match.names[machine]);
+    bool is_vacant = (self.match.vacant >> machine & 1) != 0;
+    printf("127.0.0.%" PRIu32 ":%ld is %s\n", FIRST + machine, self.friends_port, is_vacant ? "nobody yet" : self.match.names[machine]);
     return true;
 }
 
@@ -149,7 +151,7 @@ static void tell_events(void) {
     faz_lobby_event event;
     char text[FAZ_LOBBY_TEXT_ROOM + 64];
     while (faz_lobby_next_event(self.lobby, &event)) {
-        lobby_words_of(&event, text, sizeof text);
+        faz_lobby_words_of(&event, text, sizeof text);
         if (event.what == FAZ_LOBBY_CODE) {
             printf("%s\n", text);
             fflush(stdout);
@@ -157,6 +159,7 @@ static void tell_events(void) {
             fprintf(stderr, "%s%s\n", text, event.what == FAZ_LOBBY_ASKS && event.who != 0 ? ": y or n?" : "");
         if (event.what == FAZ_LOBBY_ASKS && event.who != 0)
             self.asks = event.who;
+        faz_lobby_words_begin(&self.words, self.lobby, &event);
     }
 }
 
@@ -217,6 +220,7 @@ static const option options[] = {
     { "--tcp-relay", NULL, &self.words.tcp_relay, NULL }, { "--name", NULL, &self.words.name, NULL },
     { "--relay-only", NULL, NULL, &self.words.relay_only }, { "--ask", NULL, NULL, &self.words.asks },
     { "--door", NULL, NULL, &self.words.by_door },     { "--rejoin", NULL, NULL, &self.words.lasts },
+    { "--begin-with", &self.words.begin_with, NULL, NULL },
     { NULL, NULL, NULL, NULL },
 };
 
@@ -239,7 +243,7 @@ int main(int count, char **words) {
     for (uint32_t machine = 0; machine < FAZGROND_MACHINES; machine++)
         self.friends[machine].socket = -1;
     if (why == NULL)
-        why = lobby_words_read(&self.words, &settings);
+        why = faz_lobby_words_read(&self.words, &settings);
     if (why != NULL) {
         fprintf(stderr, "faz-friend: %s\n%s", why, usage);
         return 2;

@@ -12,7 +12,10 @@
 #include <string.h>
 #include <time.h>
 
-enum { LOBBIES = 4, KEPT = 4096, WHATS = FAZ_LOBBY_REFUSED + 1 };
+enum { LOBBIES = 4, KEPT = 4096, WHATS = FAZ_LOBBY_REFUSED + 1, NAME_LENGTH = 8 };
+
+/* Names that junk doesn't have by chance. */
+static const char HOST[] = "Annalena", FRIEND[] = "Bobbejan";
 
 static struct {
     const char *url;
@@ -26,7 +29,8 @@ static struct {
     natsMsg *kept[KEPT];
     size_t count;
     int failed;
-    bool lasts; /* matches do */
+    bool lasts, stays_open; /* as the settings have them */
+    char nobody[BROKER_SUBJECT]; /* an inbox that no machine hears */
 } self;
 
 static void check(bool is_so, const char *what) {
@@ -80,7 +84,8 @@ static bool is_told(int at, faz_lobby_what what, unsigned times) {
 
 static void open_host(uint32_t players, bool asks) {
     const char *why = NULL;
-    faz_lobby_settings settings = {.broker = self.url, .name = "Ann", .digest = 7, .players = players, .asks = asks, .lasts = self.lasts};
+    faz_lobby_settings settings = {.broker = self.url, .name = HOST, .digest = 7, .players = players, .asks = asks, .lasts = self.lasts,
+                                   .stays_open = self.stays_open};
     memset(self.told, 0, sizeof self.told);
     self.lobby[0] = faz_lobby_host(&settings, &why);
     check(self.lobby[0] != NULL && comes_to(0, FAZ_LOBBY_MEETING), "a host");
@@ -88,7 +93,7 @@ static void open_host(uint32_t players, bool asks) {
 
 static void open_friend(int at) {
     const char *why = NULL;
-    faz_lobby_settings settings = {.broker = self.url, .name = "Bob", .digest = 7, .lasts = self.lasts};
+    faz_lobby_settings settings = {.broker = self.url, .name = FRIEND, .digest = 7, .lasts = self.lasts};
     self.lobby[at] = faz_lobby_join(&settings, self.code, &why);
     check(self.lobby[at] != NULL, "a friend");
 }
@@ -202,8 +207,8 @@ static void test_hidden(void) {
     for (size_t at = 0; at < self.count; at++) {
         const char *bytes = natsMsg_GetData(self.kept[at]);
         int length = natsMsg_GetDataLength(self.kept[at]);
-        for (int place = 0; place + 3 <= length; place++) {
-            check(memcmp(bytes + place, "Ann", 3) != 0 && memcmp(bytes + place, "Bob", 3) != 0, "a name is seen");
+        for (int place = 0; place + NAME_LENGTH <= length; place++) {
+            check(memcmp(bytes + place, HOST, NAME_LENGTH) != 0 && memcmp(bytes + place, FRIEND, NAME_LENGTH) != 0, "a name is seen");
             check(place + CODE_BYTES > length || memcmp(bytes + place, code, CODE_BYTES) != 0, "the code is seen");
             check(place + KEY > length || memcmp(bytes + place, in.key, KEY) != 0, "a key is seen");
         }
@@ -213,10 +218,15 @@ static void test_hidden(void) {
 
 /* Answers go to inboxes alone: nobody makes a host say something elsewhere. */
 static void test_elsewhere(void) {
-    static const char *const places[] = {"faz.meet.x", "faz.in.", "faz.in.>", "elsewhere", "faz.in.0123456789abcdef0123456789abcdeF",
-                                         "faz.in.0123456789abcdef0123456789abcdef0", "faz.in.0123456789abcdef0123456789abcde"};
+    char slip[BROKER_SUBJECT], longer[BROKER_SUBJECT + 1], part[BROKER_SUBJECT];
+    const char *const places[] = {"faz.meet.x", "faz.in.", "faz.in.>", "elsewhere", "faz.in.0123456789abcdef0123456789abcdeF", slip, longer,
+                                  "faz.in.0123456789abcdef0123456789abcdef0", "faz.in.0123456789abcdef0123456789abcde", part};
     uint8_t message[BROKER_MESSAGE];
     hello text = {.version = LOBBY_VERSION};
+    strcpy(slip, self.nobody);
+    slip[20] = slip[20] == 'A' ? 'B' : 'A';
+    snprintf(longer, sizeof longer, "%sA", self.nobody);
+    snprintf(part, sizeof part, "%.20s", self.nobody);
     open_host(2, false);
     forget();
     size_t length = hello_write(&text, &self.lobby[0]->room, message);
@@ -226,10 +236,42 @@ static void test_elsewhere(void) {
     run(100);
     hear();
     check(self.count == sizeof places / sizeof *places + 1, "the host said something elsewhere");
-    say(self.lobby[0]->room_name, "faz.in.0123456789abcdef0123456789abcdef", message, length);
+    say(self.lobby[0]->room_name, self.nobody, message, length);
     run(100);
     hear();
     check(self.count == sizeof places / sizeof *places + 3, "the host answers in an inbox");
+    close_all();
+    forget();
+}
+
+/* Whether a message that was heard is an offer of this version, to somebody who has the code. */
+static bool is_offer(const natsMsg *message, const char *to, const room *in) {
+    offer came;
+    return strcmp(natsMsg_GetSubject(message), to) == 0
+        && offer_read(&came, in, (const uint8_t *)natsMsg_GetData(message), (size_t)natsMsg_GetDataLength(message))
+        && came.version == LOBBY_VERSION;
+}
+
+/* Who says hello by version 1, whose inboxes were 32 digits, is offered this version, and so told that it is another one. It gets no
+ * seat. */
+static void test_older(void) {
+    static const char inbox[] = "faz.in.0123456789abcdef0123456789abcdef";
+    uint8_t message[BROKER_MESSAGE], secret[KEY];
+    pair between;
+    hello text = {.version = 1};
+    ask asks = {.counter = 1, .digest = 7, .here = 1, .name = "old"};
+    open_host(2, false);
+    forget();
+    const room *in = &self.lobby[0]->room;
+    say(self.lobby[0]->room_name, inbox, message, hello_write(&text, in, message));
+    run(100);
+    hear();
+    check(self.count == 2 && is_offer(self.kept[1], inbox, in), "an older friend is offered this version");
+    crypto_kx_keypair(asks.open, secret);
+    pair_of(&between, in, asks.open, secret, self.lobby[0]->keys.open);
+    say(self.lobby[0]->inbox_name, inbox, message, ask_write(&asks, in, &between, message));
+    run(100);
+    check(self.told[0][FAZ_LOBBY_JOINED] == 0, "an older friend has a seat");
     close_all();
     forget();
 }
@@ -325,7 +367,7 @@ static void test_crowd(void) {
         ask text = {.counter = 1, .digest = 7, .here = 1, .name = "crowd"};
         crypto_kx_keypair(text.open, secret);
         pair_of(&between, in, text.open, secret, self.lobby[0]->keys.open);
-        say(self.lobby[0]->room_name, "faz.in.0123456789abcdef0123456789abcdef", message, ask_write(&text, in, &between, message));
+        say(self.lobby[0]->room_name, self.nobody, message, ask_write(&text, in, &between, message));
         if (one % 32 == 0)
             run(5);
     }
@@ -443,6 +485,31 @@ static void test_false_news(void) {
     forget();
 }
 
+/* Of a seat that nobody has yet nobody speaks, whatever its key, and nobody is told that it is nobody's; a friend gets it. */
+static void test_false_vacancies(void) {
+    uint8_t message[BROKER_MESSAGE], secret[KEY];
+    news lie = {.counter = 1, .place = 2, .who = {.name = "liar"}};
+    pair nobodys = {0};
+    self.lasts = self.stays_open = true;
+    open_host(3, false);
+    open_friend(1);
+    check(is_told(1, FAZ_LOBBY_JOINED, 1) && faz_lobby_begin(self.lobby[0]) && !faz_lobby_begin(self.lobby[0]), "it begins once");
+    check(comes_to(0, FAZ_LOBBY_READY) && comes_to(1, FAZ_LOBBY_READY), "with two of three");
+    say(self.lobby[0]->inbox_name, NULL, message, news_write(1, &lie, &self.lobby[1]->other[0].pair, message));
+    crypto_kx_keypair(lie.who.open, secret);
+    for (lie.place = 0; lie.place < 9; lie.place++)
+        say(self.lobby[0]->inbox_name, NULL, message, news_write(2, &lie, &nobodys, message));
+    say(self.lobby[0]->inbox_name, NULL, message, signal_write(2, secret, sizeof secret, &nobodys, message));
+    run(300);
+    check(self.told[0][FAZ_LOBBY_COMES] == 0 && faz_lobby_look(self.lobby[0], 1, &(faz_line_state){0})
+              && !faz_lobby_look(self.lobby[0], 2, &(faz_line_state){0}), "nobody comes");
+    open_friend(2);
+    check(comes_to(2, FAZ_LOBBY_READY) && self.told[0][FAZ_LOBBY_COMES] == 1 && self.told[1][FAZ_LOBBY_COMES] == 1, "a friend comes");
+    self.lasts = self.stays_open = false;
+    close_all();
+    forget();
+}
+
 /* Settings that are no good are refused in words, and nothing is opened. */
 static void test_settings(void) {
     const char *why = NULL;
@@ -450,7 +517,7 @@ static void test_settings(void) {
     faz_lobby_settings good = {.broker = self.url, .players = 2}, bad;
     struct { faz_lobby_settings settings; const char *what; } hosts[] = {
         {good, "one player"}, {good, "nine players"}, {good, "nobody elsewhere"}, {good, "too long"}, {good, "no broker"}, {good, "no address"},
-        {good, "no user"}};
+        {good, "no user"}, {good, "open seats"}, {good, "half a pass"}, {good, "a token"}};
     hosts[0].settings.players = 1;
     hosts[1].settings.players = 9;
     hosts[2].settings.here = 2;
@@ -458,13 +525,23 @@ static void test_settings(void) {
     hosts[3].settings.common_length = sizeof common;
     hosts[4].settings.broker = NULL;
     hosts[5].settings.broker = "localhost";
+    hosts[8].settings.broker = "nats://SAAEHIWEKULOERSUIWN3EZG5SQZ5MIZRPODLROKQ5HPRVG7BPIGWX5BNLU@127.0.0.1:1";
+    hosts[9].settings.broker = "nats://127.0.0.1:1,nats://secret@127.0.0.1:2";
     hosts[6].settings.relay_count = 1;
     hosts[6].settings.relays[0] = (faz_line_relay){.address = "127.0.0.1", .port = 1, .password = "x"};
+    hosts[7].settings.stays_open = true;
     for (size_t at = 0; at < sizeof hosts / sizeof *hosts; at++, why = NULL)
         check(faz_lobby_host(&hosts[at].settings, &why) == NULL && why != NULL, hosts[at].what);
     bad = good;
     check(faz_lobby_join(&bad, "KXQ-4H7", &why) == NULL && why != NULL, "no code");
     check(faz_lobby_join(&bad, NULL, &why) == NULL && why != NULL, "no code at all");
+    faz_lobby *one = faz_lobby_open(&bad, &why);
+    check(one != NULL && !faz_lobby_enter(one, "KXQ-4H7") && !faz_lobby_enter(one, NULL), "no code is typed");
+    check(faz_lobby_enter(one, "KXQ-4H7P") && !faz_lobby_enter(one, "KXQ-4H7P"), "and then one, once");
+    faz_lobby_close(one);
+    one = faz_lobby_host(&good, &why);
+    check(one != NULL && !faz_lobby_enter(one, "KXQ-4H7P"), "who hosts types none");
+    faz_lobby_close(one);
     faz_lobby_close(NULL);
 }
 
@@ -472,7 +549,7 @@ static void test_settings(void) {
 
 static void open_short(uint32_t players) {
     const char *why = NULL;
-    faz_lobby_settings settings = {.broker = self.url, .name = "Ann", .digest = 7, .players = players, .short_code = true,
+    faz_lobby_settings settings = {.broker = self.url, .name = HOST, .digest = 7, .players = players, .short_code = true,
                                    .lasts = self.lasts};
     memset(self.told, 0, sizeof self.told);
     self.lobby[0] = faz_lobby_host(&settings, &why);
@@ -565,10 +642,10 @@ static void test_knocks(void) {
     for (int times = 0; times < 3; times++) {
         knock text = {.step = 1};
         pake *one = pake_open(false, self.lobby[0]->hosting.plate, "0000");
-        randombytes_buf(text.id, INBOX);
+        randombytes_buf(text.id, KNOCK_ID);
         pake_turn(one, NULL, 0, text.bytes, &text.length);
         pake_close(one);
-        say(self.lobby[0]->room_name, "faz.in.0123456789abcdef0123456789abcdef", message, knock_write(&text, KNOCK, message));
+        say(self.lobby[0]->room_name, self.nobody, message, knock_write(&text, KNOCK, message));
         run(100);
     }
     run(300);
@@ -577,10 +654,10 @@ static void test_knocks(void) {
     check(self.lobby[0]->hosting.wrong == 3, "three have had their tries");
     for (int times = 0; times < 300; times++) {
         knock text = {.step = (uint8_t)(times % 5), .length = randombytes_uniform(PAKE_BYTES)};
-        randombytes_buf(text.id, INBOX);
+        randombytes_buf(text.id, KNOCK_ID);
         randombytes_buf(text.bytes, sizeof text.bytes);
         size_t length = knock_write(&text, KNOCK, message);
-        say(self.lobby[0]->room_name, "faz.in.0123456789abcdef0123456789abcdef", message, times % 3 == 0 ? randombytes_uniform((uint32_t)length) : length);
+        say(self.lobby[0]->room_name, self.nobody, message, times % 3 == 0 ? randombytes_uniform((uint32_t)length) : length);
         if (times % 50 == 0)
             run(20);
     }
@@ -599,6 +676,31 @@ static void test_knocks(void) {
     for (size_t at = 0; at < self.count; at++)
         for (int place = 0; place + 4 <= natsMsg_GetDataLength(self.kept[at]); place++)
             check(memcmp(natsMsg_GetData(self.kept[at]) + place, signs, 4) != 0, "the last four signs are seen");
+    close_all();
+    forget();
+}
+
+/* Who says again what another one knocked with isn't told what that one is told. */
+static void test_knocks_again(void) {
+    char other[BROKER_SUBJECT];
+    uint8_t message[BROKER_MESSAGE], inbox[INBOX];
+    knock text = {.step = 1};
+    open_short(2);
+    pake *one = pake_open(false, self.lobby[0]->hosting.plate, "0000");
+    randombytes_buf(text.id, KNOCK_ID);
+    pake_turn(one, NULL, 0, text.bytes, &text.length);
+    pake_close(one);
+    size_t length = knock_write(&text, KNOCK, message);
+    randombytes_buf(inbox, INBOX);
+    inbox_subject(inbox, other);
+    const char *const from[] = {self.nobody, other, self.nobody};
+    for (size_t at = 0; at < sizeof from / sizeof *from; at++) {
+        forget();
+        say(self.lobby[0]->room_name, from[at], message, length);
+        run(200);
+        hear();
+        check(self.count == (from[at] == other ? 1 : 2), "what is said to who knocks");
+    }
     close_all();
     forget();
 }
@@ -629,16 +731,22 @@ typedef struct test {
 
 int main(int count, char **words) {
     static const test tests[] = {
-        {"settings", test_settings}, {"stranger", test_stranger}, {"hidden", test_hidden}, {"elsewhere", test_elsewhere},
+        {"settings", test_settings}, {"stranger", test_stranger}, {"hidden", test_hidden}, {"elsewhere", test_elsewhere}, {"older", test_older},
         {"false host", test_false_host}, {"ghosts", test_ghosts}, {"silence", test_silence}, {"crowd", test_crowd},
         {"refusals", test_refusals}, {"host leaves", test_host_leaves},
-        {"false news", test_false_news}};
+        {"false news", test_false_news}, {"false vacancies", test_false_vacancies}};
     static const test shorts[] = {
-        {"wrong tries", test_wrong_tries}, {"burnt", test_burnt}, {"no more tries", test_no_more_tries}, {"knocks", test_knocks}, {"no plate", test_no_plate}};
+        {"wrong tries", test_wrong_tries}, {"burnt", test_burnt}, {"no more tries", test_no_more_tries}, {"knocks", test_knocks},
+        {"knocks again", test_knocks_again}, {"no plate", test_no_plate}};
     bool are_short = count == 3 && strcmp(words[2], "short") == 0;
     if (count != 2 && !are_short)
         return 2;
     self.url = words[1];
+    uint8_t inbox[INBOX];
+    if (sodium_init() < 0)
+        return 2;
+    randombytes_buf(inbox, INBOX);
+    inbox_subject(inbox, self.nobody);
     if (natsConnection_ConnectTo(&self.stranger, self.url) != NATS_OK || !listen(true))
         return 2;
     for (size_t at = 0; at < (are_short ? sizeof shorts / sizeof *shorts : sizeof tests / sizeof *tests); at++) {

@@ -177,8 +177,8 @@ static void check_server(const char *said, const char *address, uint16_t port) {
     snprintf(relay, sizeof relay, "17:friends:x@%s", said);
     lobby_words words = {.broker = "nats://[2001:db8::10]:4222", .stun = said}, with_relay = {.broker = words.broker, .relay = relay};
     faz_lobby_settings stun = {0}, settings = {0};
-    bool is_read = lobby_words_read(&words, &stun) == NULL;
-    check(is_read == (lobby_words_read(&with_relay, &settings) == NULL) && is_read == (address != NULL), said);
+    bool is_read = faz_lobby_words_read(&words, &stun) == NULL;
+    check(is_read == (faz_lobby_words_read(&with_relay, &settings) == NULL) && is_read == (address != NULL), said);
     if (!is_read || address == NULL)
         return;
     check(strcmp(stun.stun, address) == 0 && stun.stun_port == port, said);

@@ -6,6 +6,7 @@
  *     --broker URL --trusted FILE --stun ADDRESS:PORT --relay USER:PASSWORD@ADDRESS:PORT --tcp-relay the same --relay-only, as words.h
  *     --name NAME        --digest N      --here N      --common TEXT
  *     --lasts            whoever stops can come back
+ *     --open             and seats that nobody has when the host begins stay open
  *     --door             codes are short, and relays are the door's
  *     --asks yes|no      the host's player lets all in, or nobody
  *     --begin SECONDS    the host begins with those who are there after so many seconds
@@ -39,7 +40,7 @@ static struct {
     long begin, leave, count, stay, within;
     machine machine[FAZGROND_MACHINES];
     uint64_t begun, ready, due, wrong, most, turns, busy;
-    bool is_there, has_match, has_all, is_over; /* is_there: at the broker */
+    bool stays_open, is_there, has_match, has_all, is_over; /* is_there: at the broker */
 } self = {.words = {.broker = "nats://127.0.0.1:4222"}, .begin = -1, .leave = -1, .count = 60, .within = 20};
 
 static uint64_t micros_of(clockid_t clock) {
@@ -68,6 +69,8 @@ static void tell_events(void) {
         if (event.what == FAZ_LOBBY_ASKS && self.settings.players > 0 && self.asks != NULL)
             printf("let in: %d\n", faz_lobby_let_in(self.lobby, event.who, strcmp(self.asks, "yes") == 0));
         self.is_over = self.is_over || event.what == FAZ_LOBBY_ENDED;
+        if (event.what == FAZ_LOBBY_COMES)
+            faz_lobby_get_match(self.lobby, &self.match);
     }
     fflush(stdout);
 }
@@ -103,7 +106,7 @@ static void send_due(void) {
 
 static bool has_all(void) {
     for (uint32_t from = 0; from < self.match.machines; from++)
-        if (from != self.match.me && self.machine[from].came < (uint64_t)self.count)
+        if (from != self.match.me && (self.match.vacant >> from & 1) == 0 && self.machine[from].came < (uint64_t)self.count)
             return false;
     return true;
 }
@@ -155,7 +158,7 @@ static void say_result(void) {
     printf(" number %016" PRIx64 " common [%.*s] names", match->number, (int)match->common_length, (const char *)match->common);
     for (uint32_t at = 0; at < match->machines; at++)
         printf(" [%s] %016" PRIx64, match->names[at], match->tickets[at]);
-    printf("\nlate %d, back by [%s]\n", match->is_late, match->code);
+    printf("\nlate %d vacant %" PRIx32 ", back by [%s]\n", match->is_late, match->vacant, match->code);
     for (uint32_t at = 0; at < match->machines; at++) {
         faz_line_state state;
         if (faz_lobby_look(self.lobby, at, &state))
@@ -206,6 +209,9 @@ static int read_option(char **at) {
     } else if (strcmp(at[0], "--lasts") == 0) {
         words->lasts = true;
         return 1;
+    } else if (strcmp(at[0], "--open") == 0) {
+        self.stays_open = true;
+        return 1;
     } else if (strcmp(at[0], "--door") == 0) {
         words->by_door = true;
         return 1;
@@ -227,11 +233,12 @@ int main(int count, char **words) {
     self.settings.players = is_host ? (uint32_t)atoi(words[2]) : 0;
     for (char **at = words + 3; *at != NULL;)
         at += read_option(at);
-    why = lobby_words_read(&self.words, &self.settings);
+    why = faz_lobby_words_read(&self.words, &self.settings);
     if (why != NULL) {
         printf("refused: %s\n", why);
         return 2;
     }
+    self.settings.stays_open = self.stays_open;
     self.begun = micros();
     self.lobby = is_host ? faz_lobby_host(&self.settings, &why) : faz_lobby_join(&self.settings, words[2], &why);
     if (self.lobby == NULL) {
