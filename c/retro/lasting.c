@@ -118,9 +118,10 @@ void lasting_seat_viewer(match *self, uint32_t viewer) {
     self->lasting.followed_at[viewer] = net_now(self->meeting->net);
 }
 
-/* One that goes over a seam isn't heard on the new line for a moment. */
+/* One that goes over a seam isn't heard on the new line for a moment, and one that stands still for a while isn't on any. */
 uint32_t lasting_rows_seen(match *self, uint32_t viewer, uint32_t now) {
     uint32_t *followed_at = &self->lasting.followed_at[viewer];
+    uint32_t patience = self->wish->silent_after > OVER_A_SEAM ? self->wish->silent_after : OVER_A_SEAM;
     fazgrond_line_state state = { 0 };
     (void)fazgrond_line_look(&self->lasting.hosting.seat[seat_of_viewer(viewer)].line, now, &state);
     if (state.is_playing != 0 && state.has_ended == 0 && state.is_silent == 0) {
@@ -128,8 +129,8 @@ uint32_t lasting_rows_seen(match *self, uint32_t viewer, uint32_t now) {
         return self->lasting.base + state.rows;
     }
     if (state.has_ended != 0)
-        *followed_at = now - OVER_A_SEAM;
-    return now - *followed_at >= OVER_A_SEAM ? UINT32_MAX : 0;
+        *followed_at = now - patience;
+    return now - *followed_at >= patience ? UINT32_MAX : 0;
 }
 
 void lasting_bye(match *self) { faz_hosting_bye(&self->lasting.hosting); }
