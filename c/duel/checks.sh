@@ -7,17 +7,41 @@ failed=0
 strict="-Wall -Wextra -Wpedantic -Werror -I. -Iggponet"
 clean="-g -O1 -fsanitize=address,undefined -fno-sanitize-recover=all"
 
-# A check: its name, and a command.
+# A check: its name, and a command. Machines play by the clock here, and on a busy machine one may stand still for longer than the others
+# wait: what fails is tried once more, and that is said.
 check() {
     what=$1
     shift
-    if "$@" > "$work/said" 2>&1; then
+    earlier=$pids
+    begin_anew
+    if "$@" > "$work/said" 2>&1 || once_more "$@"; then
         passed=$((passed + 1))
     else
         failed=$((failed + 1))
         echo "failed: $what"
-        cat "$work/said"
+        show_said
     fi
+}
+
+# Tries it again, without the machines that the first try left.
+once_more() {
+    echo "once more: $what"
+    show_said
+    left=${pids#"$earlier"}
+    pids=$earlier
+    [ -z "$left" ] || { kill $left; kill -CONT $left; wait $left; } 2> /dev/null
+    begin_anew
+    "$@" > "$work/said" 2>&1
+}
+
+# Before each try.
+begin_anew() {
+    :
+}
+
+# What a check said that failed.
+show_said() {
+    cat "$work/said"
 }
 
 # Whether there is a program; else what is skipped.
