@@ -1,4 +1,4 @@
-# For tests in which machines play the duel: sourced in the folder above, it has a folder $work, counts of checks, and machines.
+# For tests: sourced, it has a folder $work, counts of checks, and, in the folder above, machines that play the duel.
 work=$(mktemp -d) || exit 2
 pids=
 trap 'kill $pids 2> /dev/null; rm -rf -- "$work"' EXIT
@@ -8,11 +8,12 @@ strict="-Wall -Wextra -Wpedantic -Werror -I. -Iggponet"
 clean="-g -O1 -fsanitize=address,undefined -fno-sanitize-recover=all"
 
 # A check: its name, and a command. Machines play by the clock here, and on a busy machine one may stand still for longer than the others
-# wait: what fails is tried once more, and that is said.
+# wait: what fails is tried once more, and that is said. $try is 2 then: what a broker keeps of the first try has other names.
 check() {
     what=$1
     shift
     earlier=$pids
+    try=1
     begin_anew
     if "$@" > "$work/said" 2>&1 || once_more "$@"; then
         passed=$((passed + 1))
@@ -30,6 +31,7 @@ once_more() {
     left=${pids#"$earlier"}
     pids=$earlier
     [ -z "$left" ] || { kill $left; kill -CONT $left; wait $left; } 2> /dev/null
+    try=2
     begin_anew
     "$@" > "$work/said" 2>&1
 }
@@ -62,9 +64,16 @@ machine_of() {
     program=$1
     name=$2
     shift 2
+    forget $name
     timeout "${patience:-60}" "$work/$program" --headless --speed 10 "$@" > "$work/$name.out" 2> "$work/$name.err" &
     pids="$pids $!"
     eval "pid_$name=$!"
+}
+
+# What a machine of this name said in another check isn't found any more.
+forget() {
+    : > "$work/$1.out"
+    : > "$work/$1.err"
 }
 
 # Waits until machines have ended, with 0; else shows what they said.

@@ -21,7 +21,7 @@ static void publish(faz_kind kind, uint32_t frame, size_t length, const char *id
     char subject[FAZ_SUBJECT], own[FAZ_SUBJECT];
     natsMsg *message = NULL;
     jsPubAck *ack = NULL;
-    snprintf(own, sizeof own, "forged-%u", sent++);
+    snprintf(own, sizeof own, "%s-forged-%u", match, sent++);
     faz_subject(subject, match, kind, frame / FAZ_CHAPTER);
     natsMsg_Create(&message, subject, NULL, (const char *)bytes, (int)length);
     natsMsgHeader_Set(message, "Nats-Msg-Id", id != NULL ? id : own);
@@ -62,6 +62,27 @@ static void malformed_ones(uint64_t number) {
     malformed += 4 + sizeof lengths / sizeof *lengths;
 }
 
+/* Waits until rows from this frame on stand, ten seconds at most. */
+static void await_rows(uint32_t frame) {
+    char subject[FAZ_SUBJECT];
+    uint64_t place = 1;
+    bool is_there = false;
+    faz_subject(subject, match, FAZ_ROWS, frame / FAZ_CHAPTER);
+    for (int tries = 0; !is_there && tries < 500; tries++) {
+        natsMsg *message = NULL;
+        if (faz_broker_next(&broker, &message, subject, place) == NATS_OK) {
+            const uint8_t *it = (const uint8_t *)natsMsg_GetData(message);
+            size_t length = (size_t)natsMsg_GetDataLength(message);
+            is_there = faz_kind_of(it, length) == FAZ_ROWS && faz_frame_of(it, length) >= frame;
+            place = natsMsg_GetSequence(message) + 1;
+        } else
+            nats_Sleep(20);
+        natsMsg_Destroy(message);
+    }
+    if (!is_there)
+        exit(1);
+}
+
 /* A snapshot whose digest is another, and one whose state is none. They are read by who asks for a snapshot. */
 static void bad_snapshots(uint64_t number, uint32_t frame) {
     duel state;
@@ -81,6 +102,7 @@ int main(int count, char **words) {
     uint64_t number = faz_number(match);
     take_places(number, frame);
     malformed_ones(number);
+    await_rows(FAZ_RUN);
     publish(FAZ_ROWS, 0, rows_of(number, 0, 99), NULL);
     publish(FAZ_ROWS, 0, rows_of(number, FAZ_RUN, 99), NULL);
     other += 2;
