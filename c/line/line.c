@@ -46,7 +46,7 @@ struct faz_line {
     seal seal;
     way newest, before; /* `before` was heard; it carries on until the newest is */
     ice *closing[CLOSING];
-    bool has_turned, was_up, was_blocked;
+    bool has_turned, is_asked, was_up, was_blocked; /* is_asked: for signals */
     unsigned tries; /* how many ways were given up since something came */
     uint32_t now, heard_at, sent_at, told_at, looked_at;
     uint64_t addresses;
@@ -263,6 +263,8 @@ void faz_line_turn(faz_line *self, uint32_t now) {
         self->has_turned = true;
         self->newest.begun = self->heard_at = self->sent_at = self->told_at = self->looked_at = now;
     }
+    if (!self->is_asked)
+        self->newest.begun = self->heard_at = now;
     for (way *each = &self->newest; each != NULL; each = each == &self->newest ? &self->before : NULL)
         if (each->ice != NULL)
             ice_turn(each->ice);
@@ -290,6 +292,7 @@ bool faz_line_signal(faz_line *self, uint8_t *out, size_t room, size_t *length) 
     way *newest = &self->newest;
     uint8_t inside[FAZ_LINE_SIGNAL - NOTE_OVERHEAD];
     size_t size = HEAD;
+    self->is_asked = true;
     if (newest->ice == NULL || newest->is_heard || room < FAZ_LINE_SIGNAL)
         return false;
     if (newest->told > 0 && since(self, self->told_at) >= TOLD_AGAIN) {

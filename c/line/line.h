@@ -95,7 +95,10 @@ void faz_line_turn(faz_line *line, uint32_t now);
  * those before stay. */
 bool faz_line_relays(faz_line *line, const faz_line_relay *relays, uint32_t count);
 
-/* The next signal to carry to the other machine, in `out`, which has room for FAZ_LINE_SIGNAL bytes. False: there is none now. */
+/* The next signal to carry to the other machine, in `out`, which has room for FAZ_LINE_SIGNAL bytes. False: there is none now.
+ *
+ * A line that isn't asked for signals yet asks servers how the internet sees this machine, and for places on relays, and waits: so it
+ * may be opened before the other machine can be told anything. It sends that one nothing until then. */
 bool faz_line_signal(faz_line *line, uint8_t *out, size_t room, size_t *length);
 
 /* Takes a signal of the other machine's. False: it made no such signal. */

@@ -173,6 +173,9 @@ struct faz_lobby {
     joining joining;
     table table;
     other other[FAZGROND_MACHINES];
+    faz_line *ahead; /* of who joins, to the host, before the table is there; null: there is none */
+    bool was_ahead;
+    uint32_t ahead_at;
     uint32_t heard; /* the machine whose line was asked last for what came */
     early early[EARLY];
     uint32_t earlies;
@@ -256,6 +259,10 @@ bool mesh_has_line(const faz_lobby *self, uint32_t machine);
 bool mesh_is_vacant(const faz_lobby *self, uint32_t machine);
 /* There is somebody else in a place: the line to it is another one. */
 void mesh_replace(faz_lobby *self, uint32_t place, const member *who);
+
+/* Who joins opens a line to the host while that is asked, once, as soon as all servers have addresses. */
+void mesh_open_ahead(faz_lobby *self);
+void mesh_drop_ahead(faz_lobby *self);
 
 /* The table is there: lines are opened with all others, as soon as all servers have addresses. */
 void mesh_open(faz_lobby *self);

@@ -225,7 +225,11 @@ void join_turn(faz_lobby *self) {
     case HAS_TABLE: return;
     case KNOCKS: if (is_to_say) say_knock(self); break;
     case SAYS_HELLO: if (is_to_say) say_hello(self); break;
-    case ASKS_TO_JOIN: if (is_to_say) say_ask(self, false); break;
+    case ASKS_TO_JOIN:
+        if (is_to_say)
+            say_ask(self, false);
+        mesh_open_ahead(self);
+        break;
     }
     give_up(self);
 }

@@ -12,6 +12,9 @@ enum { NOT_HEARD = 1000 };
 /* So many of them lines have to be closed. */
 enum { LAST = 300 };
 
+/* So long a line that was opened ahead is kept: it may hold places on relays. */
+enum { AHEAD = 60000 };
+
 /* For so many of them who comes into a match that runs waits for the lines of others, once one is up: they may be gone. */
 enum { WAITED_FOR = 2000 };
 
@@ -29,21 +32,46 @@ bool mesh_is_vacant(const faz_lobby *self, uint32_t machine) {
 
 /* ---- opening */
 
-/* Each line has this machine's keys, which no other line has with the same machine at its other end. */
-static bool open_line(faz_lobby *self, uint32_t machine) {
+/* Each line has this machine's keys. No other line that has told a signal has them with the same machine at its other end. */
+static faz_line *line_to(const faz_lobby *self, uint32_t me, uint32_t machine, const uint8_t their[KEY]) {
     const char *why;
     faz_line_keys keys = self->keys;
     faz_line_settings settings = self->line;
-    other *to = &self->other[machine];
-    const member *of = &self->table.member[machine];
-    settings.me = self->table.me;
+    settings.me = me;
     settings.other = machine;
     settings.keys = &keys;
-    settings.their = of->open;
-    inbox_subject(of->inbox, to->subject);
-    if (pair_of(&to->pair, &self->mesh, self->keys.open, self->keys.secret, of->open))
-        to->line = faz_line_open(&settings, &why);
+    settings.their = their;
+    faz_line *line = faz_line_open(&settings, &why);
     sodium_memzero(&keys, sizeof keys);
+    return line;
+}
+
+/* The host is machine 0 of a match that begins, and its key is that by which it speaks. Which one this machine is to be isn't known: 1
+ * stands for any behind the host. */
+void mesh_open_ahead(faz_lobby *self) {
+    if (!self->was_ahead && lobby_has_addresses(self)) {
+        self->was_ahead = true;
+        self->ahead_at = self->now;
+        self->ahead = line_to(self, 1, 0, self->joining.host.theirs);
+    }
+    if (self->ahead != NULL)
+        faz_line_turn(self->ahead, self->now);
+    if (self->ahead != NULL && lobby_since(self, self->ahead_at) >= AHEAD)
+        mesh_drop_ahead(self);
+}
+
+static bool open_line(faz_lobby *self, uint32_t machine) {
+    other *to = &self->other[machine];
+    const member *of = &self->table.member[machine];
+    inbox_subject(of->inbox, to->subject);
+    if (!pair_of(&to->pair, &self->mesh, self->keys.open, self->keys.secret, of->open))
+        return false;
+    if (machine == 0 && !self->table.is_late) {
+        to->line = self->ahead;
+        self->ahead = NULL;
+    }
+    if (to->line == NULL)
+        to->line = line_to(self, self->table.me, machine, of->open);
     return to->line != NULL;
 }
 
@@ -74,6 +102,7 @@ static void open_lines(faz_lobby *self) {
             return;
         }
     self->has_lines = true;
+    mesh_drop_ahead(self);
     hear_early(self);
 }
 
@@ -93,6 +122,11 @@ static aside *close_aside(faz_line *line) {
     return job;
 }
 
+void mesh_drop_ahead(faz_lobby *self) {
+    aside_leave(close_aside(self->ahead));
+    self->ahead = NULL;
+}
+
 void mesh_replace(faz_lobby *self, uint32_t place, const member *who) {
     other *to = &self->other[place];
     aside_leave(close_aside(to->line));
@@ -103,8 +137,8 @@ void mesh_replace(faz_lobby *self, uint32_t place, const member *who) {
         open_line(self, place);
 }
 
-static bool are_over(aside *const jobs[FAZGROND_MACHINES]) {
-    for (int at = 0; at < FAZGROND_MACHINES; at++)
+static bool are_over(aside *const jobs[], int count) {
+    for (int at = 0; at < count; at++)
         if (jobs[at] != NULL && !aside_is_over(jobs[at]))
             return false;
     return true;
@@ -112,12 +146,14 @@ static bool are_over(aside *const jobs[FAZGROND_MACHINES]) {
 
 /* All at once. */
 void mesh_close(faz_lobby *self) {
-    aside *jobs[FAZGROND_MACHINES];
+    enum { ALL = FAZGROND_MACHINES + 1 };
+    aside *jobs[ALL];
     for (int at = 0; at < FAZGROND_MACHINES; at++)
         jobs[at] = close_aside(self->other[at].line);
-    for (int waited = 0; !are_over(jobs) && waited < LAST; waited++)
+    jobs[FAZGROND_MACHINES] = close_aside(self->ahead);
+    for (int waited = 0; !are_over(jobs, ALL) && waited < LAST; waited++)
         faz_ice_wait();
-    for (int at = 0; at < FAZGROND_MACHINES; at++)
+    for (int at = 0; at < ALL; at++)
         aside_leave(jobs[at]);
 }
 

@@ -187,6 +187,7 @@ void lobby_take_servers(faz_lobby *self, const door_answer *answer) {
     self->line.stun_port = answer->stun_port;
     copy_relays(self, relays, answer->relays);
     self->has_addresses = false;
+    mesh_drop_ahead(self);
 }
 
 bool lobby_has_addresses(faz_lobby *self) {

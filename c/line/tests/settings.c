@@ -1,4 +1,4 @@
-/* What a line refuses to be opened with, and what it does with keys. */
+/* What a line refuses to be opened with, what it does with keys, and how it waits for the other machine. */
 #include "../line.h"
 
 #include <stdio.h>
@@ -25,6 +25,38 @@ static bool opens(const faz_line_settings *settings) {
     IS(why == NULL);
     faz_line_close(line);
     return true;
+}
+
+/* How it stands after it has had turns up to a moment, and was asked for signals, or not. */
+static faz_line_state after(faz_line *line, uint32_t from, uint32_t to, bool is_asked) {
+    uint8_t bytes[FAZ_LINE_SIGNAL];
+    faz_line_state state;
+    size_t length;
+    for (uint32_t now = from; now < to; now += 100) {
+        faz_line_turn(line, now);
+        while (is_asked && faz_line_signal(line, bytes, sizeof bytes, &length)) {
+        }
+    }
+    faz_line_look(line, &state);
+    return state;
+}
+
+/* Time counts from when a line is asked for signals: from then on it is given up for another one after two seconds, and after six there
+ * is no way. */
+static void waits(void) {
+    faz_line_keys keys, other;
+    const char *why;
+    IS(faz_line_draw(&keys) && faz_line_draw(&other));
+    faz_line *line = faz_line_open(&(faz_line_settings){.me = 1, .other = 0, .keys = &keys, .their = other.open}, &why);
+    faz_line_state state = after(line, 0, 60000, false);
+    IS(state.stage == FAZ_LINE_LOOKING && state.generation == 1 && state.silence == 0 && state.sent == 0);
+    state = after(line, 60000, 61900, true);
+    IS(state.stage == FAZ_LINE_LOOKING && state.generation == 1);
+    state = after(line, 61900, 65900, true);
+    IS(state.stage == FAZ_LINE_LOOKING && state.generation == 2);
+    state = after(line, 65900, 67000, true);
+    IS(state.stage == FAZ_LINE_BLOCKED && state.generation == 3 && state.sent == 0);
+    faz_line_close(line);
 }
 
 int main(void) {
@@ -76,5 +108,6 @@ int main(void) {
     IS(state.forged == 2);
     faz_line_close(line);
     faz_line_close(NULL);
+    waits();
     return failures != 0;
 }

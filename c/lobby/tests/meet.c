@@ -162,8 +162,9 @@ static void say_result(void) {
     for (uint32_t at = 0; at < match->machines; at++) {
         faz_line_state state;
         if (faz_lobby_look(self.lobby, at, &state))
-            printf("with %u number %016" PRIx64 " came %" PRIu64 " gap %" PRIu64 " way %d forged %" PRIu64 " misnamed %" PRIu64 "\n", at,
-                   match->numbers[at], self.machine[at].came, self.machine[at].gap / 1000, (int)state.way, state.forged, state.misnamed);
+            printf("with %u number %016" PRIx64 " came %" PRIu64 " gap %" PRIu64 " way %d forged %" PRIu64 " misnamed %" PRIu64
+                   " generation %u\n", at, match->numbers[at], self.machine[at].came, self.machine[at].gap / 1000, (int)state.way,
+                   state.forged, state.misnamed, state.generation);
     }
     printf("turn %.1f us of the processor; the longest took %.1f ms; wrong %" PRIu64 "\n", (double)self.busy / (double)self.turns,
            (double)self.most / 1000, self.wrong);
