@@ -12,7 +12,8 @@ enum {
     LONG = 300,         /* an epoch with so many rows is ended for who begins to follow it */
     TOLD_AT_ONCE = 4,   /* so often, as an epoch has ended, its last rows are told: a machine that is alone forgets it in the next turn */
     WAITED_FOR = 1000,  /* milliseconds after a seam in which nobody is proposed before who watches has come over it */
-    HEARD_WITHIN = 2000 /* milliseconds in which who has come in has to be heard */
+    HEARD_WITHIN = 2000, /* milliseconds in which who has come in has to be heard .. */
+    STOOD = 100          /* .. of which a turn counts so many at most: while this machine stands still it hears nobody */
 };
 
 static bool is_machine(uint32_t owner) { return owner < FAZGROND_MACHINES; }
@@ -218,9 +219,12 @@ static void watch_who_came(faz_hosting *self, uint32_t now) {
     fazgrond_stats stats;
     if (!self->is_counted) {
         self->is_counted = true;
-        self->begun_at = now;
+        self->begun_at = self->turned_at = now;
+        self->waited = 0;
     }
-    if (self->table.came == 0 || now - self->begun_at < HEARD_WITHIN)
+    self->waited += now - self->turned_at < STOOD ? now - self->turned_at : STOOD;
+    self->turned_at = now;
+    if (self->table.came == 0 || self->waited < HEARD_WITHIN)
         return;
     for (uint32_t machine = 0; machine < FAZGROND_MACHINES; machine++)
         if ((self->table.came >> machine & 1) != 0 && machine != self->me

@@ -55,7 +55,7 @@ typedef struct faz_hosting {
 
     faz_table table;
     bool has_begun, is_marked, is_counted, is_told;
-    uint32_t begun_at;
+    uint32_t begun_at, turned_at, waited; /* when this epoch's first turn was, and the last; for how long who came is waited for */
     fazgrond_giver about, state, ready;
 } faz_hosting;
 

@@ -235,13 +235,17 @@ void lasting_tell(match *self, uint32_t now) {
     }
 }
 
+/* Whether this machine came in after the match had begun, or has played before. */
+static bool has_come(const match *self) { return self->lasting.base > 0; }
+
 /* Whether the match goes on without this machine: it is gone for another one, which isn't for it. If both are, since a line was
- * broken for long, each has gone on alone: then the one that is in a later epoch plays on, or the one with the lower number. */
+ * broken for long, each has gone on alone: then the one that is in a later epoch plays on, or the one with the lower number. Who has
+ * come in, and was given up before it was heard, is told so before it plays. */
 bool lasting_is_out(match *self) {
     const meeting *told = self->meeting;
     bool is_told = told->is_out, is_later = told->out_from > self->lasting.base, is_same = told->out_from == self->lasting.base;
     self->meeting->is_out = false;
-    if (!is_told || !self->is_running)
+    if (!is_told || (!self->is_running && !has_come(self)))
         return false;
     return (self->gone >> told->out_of & 1) == 0 ? is_later || is_same : is_later || (is_same && told->out_of < told->all.me);
 }
@@ -358,13 +362,24 @@ static bool is_anybody_heard(const match *self, uint32_t now) {
     return is_heard;
 }
 
+/* The match has ended, or its machines are out of reach, before this one plays. */
+static void end_if_unheard(match *self, uint32_t now) {
+    if (self->has_failed || is_anybody_heard(self, now))
+        return;
+    self->lasting.is_lost = true;
+    match_end(self, "nobody of it is heard any more");
+}
+
+void lasting_wait(match *self, uint32_t now) {
+    if (has_come(self))
+        end_if_unheard(self, now);
+}
+
 void lasting_come(match *self, uint32_t now) {
     faz_comer_turn(&self->lasting.comer, now);
     take_what_came(self, now);
-    if (self->lasting.is_coming && !self->has_failed && !is_anybody_heard(self, now)) {
-        self->lasting.is_lost = true;
-        match_end(self, "nobody of it is heard any more");
-    }
+    if (self->lasting.is_coming)
+        end_if_unheard(self, now);
     self->frame = self->settled = self->main->frame;
 }
 
@@ -395,6 +410,7 @@ void lasting_turn(match *self, uint32_t now) { (void)self, (void)now; }
 void lasting_tell(match *self, uint32_t now) { (void)self, (void)now; }
 bool lasting_is_out(match *self) { return (void)self, false; }
 void lasting_come(match *self, uint32_t now) { (void)self, (void)now; }
+void lasting_wait(match *self, uint32_t now) { (void)self, (void)now; }
 void lasting_close(match *self) { (void)self; }
 
 void lasting_hear(match *self, const address *from, const uint8_t *bytes, size_t length, uint32_t now) {

@@ -76,5 +76,8 @@ bool lasting_is_out(struct match *self);
 /* In each turn while this machine comes in. */
 void lasting_come(struct match *self, uint32_t now);
 
+/* In each turn from then until it plays. */
+void lasting_wait(struct match *self, uint32_t now);
+
 void lasting_close(struct match *self);
 #endif

@@ -466,7 +466,9 @@ static void play_lasting(match *self, uint32_t now) {
         drop(self);
     if (self->lasting.is_coming)
         return;
-    if (self->is_running && !self->has_desync && !self->has_failed)
+    if (!self->is_running)
+        lasting_wait(self, now);
+    else if (!self->has_desync && !self->has_failed)
         lasting_turn(self, now);
     note_settled(self);
     casting_turn(self);
