@@ -9,7 +9,7 @@ use Rattle.roll_member.specs.declared.join.JoinRefusal.TheVariants.{InvalidSeat,
 use Rattle.roll_mesh.specs.declared.refusal.MeshRefusal.{MeshRefusal}
 use Rattle.roll_mesh.specs.declared.refusal.MeshRefusal.TheVariants.{CountFull, InvalidMachine as NoMachine, InvalidPlayer as NoPlayer, InvalidSeat as NoSeat, MachineGone as IsGone, Overstated as SaysMore, Uneven as SaysParts, OwnMachine as ItsOwn}
 use Rattle.roll_peer.specs.declared.event.PeerEvent.{PeerEvent}
-use Rattle.roll_peer.specs.declared.event.PeerEvent.TheVariants.{Synchronizing, Synchronized, Running, DisconnectedFromPeer, TimeSync, Interrupted, Resumed, Desync, Mismatch, Dropped, Left, Restarted, Stalled, Refused, Missing, CutOff}
+use Rattle.roll_peer.specs.declared.event.PeerEvent.TheVariants.{Synchronizing, Synchronized, Running, DisconnectedFromPeer, TimeSync, Interrupted, Resumed, Desync, Mismatch, Dropped, Left, Restarted, Stalled, Refused, Missing, CutOff, Strangers}
 use Rattle.roll_peer.specs.declared.received.Ignored.{Ignored}
 use Rattle.roll_peer.specs.declared.received.Ignored.TheVariants.{NotSealed, NoDatagram, InvalidMachine, OwnMachine, MachineGone, OtherSession as IsOther, Outside, Overstated}
 use Rattle.roll_peer.specs.declared.refusal.MarkRefusal.{MarkRefusal}
@@ -89,6 +89,7 @@ event_out (Stalled machine disconnect_in) =
 event_out (Refused machine) = record (bare 1107) { machine = machine }
 event_out (Missing machine) = record (bare 1108) { machine = machine }
 event_out (CutOff over_in) = record (bare 1109) { disconnect_in = over_in }
+event_out (Strangers count) = record (bare 1110) { count = count }
 
 -- what was counted of a machine; the round trip is 0 if it wasn't measured
 abbrev pub stats_out : Stats → StatsOut

@@ -90,7 +90,8 @@ event_text number =
     else (if number == 1107 then codes "something that a machine sealed was refused"
     else (if number == 1108 then codes "a machine hasn't come so far"
     else (if number == 1109 then codes "this machine hears too few of the others"
-    else [])))))))))))))))
+    else (if number == 1110 then codes "a machine hasn't come so far, and datagrams come that aren't of this match"
+    else []))))))))))))))))
 
 -- the sentence for a number, if there is one
 abbrev pub text_of : ℕ → List ℕ

@@ -142,6 +142,10 @@ impl EventOut {
                 disconnect_in: over_in,
                 ..EventOut::bare(1109)
             },
+            PeerEvent::Strangers { count } => EventOut {
+                count,
+                ..EventOut::bare(1110)
+            },
         }
     }
 

@@ -147,6 +147,7 @@ fn event_text(number: u32) -> &'static str
         1107 => "something that a machine sealed was refused",
         1108 => "a machine hasn't come so far",
         1109 => "this machine hears too few of the others",
+        1110 => "a machine hasn't come so far, and datagrams come that aren't of this match",
         _ => "",
     }
 }

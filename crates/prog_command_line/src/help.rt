@@ -1,6 +1,6 @@
 //! Texts of `--help` and `--version`.
 
-pub const VERSION: &str = "0.1.2";
+pub const VERSION: &str = "0.1.3";
 
 pub const PROGRAM: &str = "\
 Plays scripts and matches of rollback sessions, tests games, and checks the claims of rollbacks.

@@ -29,7 +29,7 @@ use Rattle.roll_wire.specs.declared.limits.TheConstants.{WORD_LIMIT}
 use Rattle.roll_peer.specs.PeerWorlds.{nobody, IsPlayedTo, sent_in, Acts, AreSteps, Calls, CallsHolding, Deed, Disconnects, Does, HearsToo, IsStep, NotesSettled, NotesStateAt, Opens, PeerWorld, Polls, PutsMark, Receives, SaysBye, Sends, SendsNone, TakesEvent, TakesTurn, VoidsMark}
 use Rattle.roll_peer.specs.Peered.{beside, without_all, Peered}
 use Rattle.roll_peer.specs.Marking.{is_numbered}
-use Rattle.roll_peer.specs.Receiving.{end_for, is_refusal, meeting, opened, packet_of, sender_of, ticking, Hears, HearsTurn, IsIgnored}
+use Rattle.roll_peer.specs.Receiving.{end_for, meeting, opened, packet_of, sender_of, ticking, Hears, HearsTurn, IsIgnored}
 use Rattle.roll_peer.specs.Requests.{Beside, HearsBytes}
 use Rattle.roll_peer.specs.Sending.{after_send, is_lost, key_for, text_for, IsContentFor, IsPlayFor}
 use Rattle.roll_peer.specs.Settings.{seat_of as seat_in}
@@ -41,7 +41,7 @@ use Rattle.roll_peer.proofs.Coming.{comes_already, gives_all, held_to, with_hold
 use Rattle.roll_peer.proofs.Genuine.{genuine, sender_is}
 use Rattle.roll_peer.proofs.Later.{called_on, goes_on}
 use Rattle.roll_peer.proofs.Parcels.{heard_alike, shares_kept, shortened_again, whole_heard}
-use Rattle.roll_peer.proofs.Polling.{either_like, like, like_as, polled_stands, AreLike}
+use Rattle.roll_peer.proofs.Polling.{either_like, ignored_like, like, like_as, polled_stands, AreLike}
 use Rattle.roll_peer.proofs.Said.{after_send_is}
 use Rattle.roll_peer.proofs.Standing.{from_holder, from_more, held_by, here_is, holds, inside_of, stands_as, stands_heard, stands_left, stands_met, stands_on, IsFrom, Stands}
 
@@ -327,7 +327,7 @@ module _ (match : Match) (world : WordWorld) (i : ℕ) (from : IsFrom match worl
       subst (λ (p : Peered). Stands match world i s p) (sym other.2) stands
   ignored_stands s old new bytes why (inr own) stands =
       let met = stands_met match world i from there s old own.0 stands in
-      let same = either_like (is_refusal why) (meeting s old) _ _ (like (meeting s old)) (like (meeting s old)) in
+      let same = ignored_like bytes why (meeting s old) in
       stands_as match world i from there s (meeting s old) new
       (ap (λ (p : Peered). p.member.mesh) own.2 ∙ same.0) (ap (λ (p : Peered). p.settings) own.2 ∙ same.1) met
 

@@ -27,7 +27,7 @@ use Rattle.roll_peer.specs.Peered.{contact_at, Peered}
 use Rattle.roll_peer.specs.Receiving.{after_ignored, ignored, ignored_sized, is_refusal, is_sized, refused_of, sender_of, Hears}
 use Rattle.roll_peer.specs.Sending.{is_lost}
 use Rattle.roll_peer.specs.CutOffs.{cut_off_since, hears_most, most_noted}
-use Rattle.roll_peer.specs.Turning.{farewell_until, hushed_until, lead_in, looked_after, missed_until, moved_to, over, silenced_until, stall_ended, stall_told, timed, watched_until, Polls}
+use Rattle.roll_peer.specs.Turning.{farewell_until, hushed_until, lead_in, looked_after, missed_until, moved_to, over, silenced_until, stall_ended, stall_told, strangers_told, timed, watched_until, Polls}
 use Rattle.roll_peer.specs.Waiting.{Waiting}
 use Rattle.roll_peer.specs.declared.digests.Digests.{Digests}
 use Rattle.roll_peer.specs.declared.event.PeerEvent.{PeerEvent}
@@ -37,7 +37,7 @@ use Rattle.roll_peer.specs.declared.received.Ignored.{Ignored}
 use Rattle.roll_peer.specs.declared.received.Ignored.TheVariants.{InvalidMachine, NotSealed}
 use Rattle.roll_peer.specs.declared.received.Received.{Received}
 use Rattle.roll_peer.specs.declared.received.Received.TheVariants.{Hello as HelloHeard, Play as PlayHeard, Bye as ByeHeard}
-use Rattle.roll_peer.proofs.Said.{begun_is, ignored_is, over_is}
+use Rattle.roll_peer.proofs.Said.{begun_is, ignored_is, over_is, strangers_told_is}
 
 -- ---- one more event
 
@@ -264,6 +264,11 @@ module _ (n : ℕ) where
       let before = missed_named now m peer (omega (arith, l)) h in
       either _ _ _ (push_named _ _ before (below m l)) before
 
+  strangers_named : (now : ℕ) (peer : Peered) → AreNamed n peer.waiting → AreNamed n (strangers_told now peer).waiting
+  strangers_named now peer h =
+      subst (λ (p : Peered). AreNamed n p.waiting) (sym (strangers_told_is now peer))
+      (either _ _ _ (push_named peer.waiting _ h tt) h)
+
   farewell_named : (k : ℕ) (peer : Peered) → k ≤ n → AreNamed n peer.waiting
       → AreNamed n (farewell_until k peer).waiting
   unfolding farewell_until
@@ -292,8 +297,8 @@ module _ (n : ℕ) where
       → AreNamed n (looked_after now n peer).waiting
   looked_named peer now h =
       let all : n ≤ n = omega arith in
-      farewell_named n _ all (missed_named now n _ all (hushed_named now n _ all (watched_named now n _ all
-      (silenced_named now n (most_noted now peer) (most_named now peer h)))))
+      farewell_named n _ all (strangers_named now _ (missed_named now n _ all (hushed_named now n _ all (watched_named now n _ all
+      (silenced_named now n (most_noted now peer) (most_named now peer h))))))
 
   time_named : (frames : Option ℕ) → IfSome (option_map TimeSync frames) (IsNamed n)
   time_named None = tt
@@ -324,7 +329,8 @@ events_name_machines = record {
       hearing_named old.settings.machines old bytes seated step before after new r.what received h
       (known old.settings.machines old bytes seated i) r.hears;
   refused = λ old bytes why seated h i.
-      refusal_named old.settings.machines old bytes seated why h i;
+      either old.settings.machines _ _ _ (refusal_named old.settings.machines old bytes seated why h i)
+      (refusal_named old.settings.machines old bytes seated why h i);
   polled = λ before after old new refusal h p.
       polled_named old.settings.machines before after old new refusal refl h p;
   heard_beside = λ old other machine seated h. beside_named old.settings.machines old other machine seated h;

@@ -37,7 +37,7 @@ use Rattle.roll_peer.specs.MarkLaws.{has_of, mark_for, mark_of_word, TheyKnowOne
 use Rattle.roll_peer.specs.Marks.{mark_at}
 use Rattle.roll_peer.specs.PeerWorlds.{nobody, IsPlayedTo, sent_in, Acts, AreSteps, Calls, CallsHolding, Deed, Disconnects, Does, HearsToo, IsStep, NotesSettled, NotesStateAt, Opens, PeerWorld, Polls, PutsMark, Receives, SaysBye, Sends, SendsNone, TakesEvent, TakesTurn, VoidsMark}
 use Rattle.roll_peer.specs.Peered.{without_all, Peered}
-use Rattle.roll_peer.specs.Receiving.{is_refusal, meeting, opened, packet_of, sender_of, ticking, Hears, HearsTurn, IsIgnored}
+use Rattle.roll_peer.specs.Receiving.{meeting, opened, packet_of, sender_of, ticking, Hears, HearsTurn, IsIgnored}
 use Rattle.roll_peer.specs.Requests.{Beside, HearsBytes}
 use Rattle.roll_peer.specs.Sending.{after_send, is_lost, key_for, text_for, IsContentFor, IsPlayFor}
 use Rattle.roll_peer.specs.Settings.{seat_of as seat_in}
@@ -49,7 +49,7 @@ use Rattle.roll_peer.proofs.Genuine.{genuine}
 use Rattle.roll_peer.proofs.Keeping.{is_own, stays_left, stays_like, stays_met, stays_on, stays_polled, Stays}
 use Rattle.roll_peer.proofs.Mirrors.{in_either, mirrors, mirrors_nobody, step_mirrors, text_is, IsAt, IsMirrored, IsToldAs, Mirrors, WasTold}
 use Rattle.roll_peer.proofs.Noted.{heard_in, heard_more, mark_here, mark_other, noted, noted_alike, noted_early, noted_is, noted_many, noted_there, offered_alike, shortened_in, IsIn}
-use Rattle.roll_peer.proofs.Polling.{either_like, like, like_as, AreLike}
+use Rattle.roll_peer.proofs.Polling.{either_like, ignored_like, like, like_as, AreLike}
 use Rattle.roll_peer.proofs.Said.{after_send_is}
 use Rattle.roll_peer.proofs.Standing.{from_kept}
 
@@ -405,7 +405,7 @@ module _ (match : Match) (world : PeerWorld) (i : ℕ) (old : Beside) (seat : ol
       go (inr own) =
           quiet new (met_alike new ticked (refl, refl, refl) own.0
           (like_as (meeting old.session ticked) _ new.peer own.2
-          (either_like (is_refusal why) (meeting old.session ticked) _ _ (like (meeting old.session ticked)) (like (meeting old.session ticked)))))
+          (ignored_like bytes why (meeting old.session ticked))))
 
   acts_change : (step : Step) (sent : List (List ℕ)) (deed : Deed) (new : Beside)
       → ((place : ℕ) (bytes : List ℕ) → slice_get sent place ≡ Some bytes → TellsMarks match world bytes)

@@ -1,17 +1,18 @@
 -- A poll: machines are regarded as gone, and their players leave, by steps of the laws over words.
-use Rattle.std.proofs.Common.{◌≡◌, ℕ, zero, suc, ◌<◌, refl, ap, sym, subst, Bool, true, false, Option, None, Some, Result, Ok, Err}
+use Rattle.std.proofs.Common.{◌≡◌, ℕ, List, zero, suc, ◌<◌, refl, ap, sym, subst, Bool, true, false, Option, None, Some, Result, Ok, Err}
 use Rattle.std.specs.Prelude.{if◌then◌else◌}
 use Rattle.roll_frame.specs.declared.refusal.Refusal.{Refusal}
 use Rattle.roll_mesh.specs.Words.{WordWorld}
 use Rattle.roll_mesh.specs.Worlds.{Match}
 use Rattle.roll_session.specs.Seen.{Seen}
 use Rattle.roll_peer.specs.Peered.{Peered}
-use Rattle.roll_peer.specs.Receiving.{meeting, moment_of}
+use Rattle.roll_peer.specs.Receiving.{after_ignored, is_refusal, meeting, moment_of, sender_of, with_stranger}
 use Rattle.roll_peer.specs.CutOffs.{cut_off_since, hears_most, most_noted}
-use Rattle.roll_peer.specs.Turning.{begun, farewell_at, farewell_until, hushed_at, hushed_until, looked_after, missed_at, missed_until, moved_to, over, silenced_until, stall_told, timed, watched_until, without, IsPolled, Polls}
+use Rattle.roll_peer.specs.Turning.{begun, farewell_at, farewell_until, hushed_at, hushed_until, looked_after, missed_at, missed_until, moved_to, over, silenced_until, stall_told, strangers_told, timed, watched_until, without, IsPolled, Polls}
+use Rattle.roll_peer.specs.declared.received.Ignored.{Ignored}
 use Rattle.roll_peer.specs.declared.refusal.PeerRefusal.{PeerRefusal}
 use Rattle.roll_peer.specs.declared.refusal.PeerRefusal.TheVariants.{OtherSession, Session}
-use Rattle.roll_peer.proofs.Said.{begun_is, over_is}
+use Rattle.roll_peer.proofs.Said.{begun_is, over_is, strangers_told_is}
 use Rattle.roll_peer.proofs.Standing.{stands_as, stands_met, stands_parted, stands_without, IsFrom, Stands}
 
 -- two that know the same of who has what, of which match, and which marks
@@ -42,6 +43,18 @@ most_like now peer = either_like _ peer _ _ (since_like peer.cut_off.since) (lik
 
 pub begun_like : (peer : Peered) → AreLike peer (begun peer)
 begun_like peer = like_as peer _ (begun peer) (begun_is peer) (either_like _ peer _ _ (like peer) (like peer))
+
+strangers_like : (now : ℕ) (peer : Peered) → AreLike peer (strangers_told now peer)
+strangers_like now peer =
+    like_as peer _ (strangers_told now peer) (strangers_told_is now peer) (either_like _ peer _ _ (like peer) (like peer))
+
+-- what is refused changes nothing but what is counted and told
+pub ignored_like : (bytes : List ℕ) (why : Ignored) (peer : Peered)
+    → AreLike peer (with_stranger bytes why (after_ignored (sender_of bytes) why peer))
+ignored_like bytes why peer = either_like _ peer _ _ refused refused
+  where
+    refused : AreLike peer (after_ignored (sender_of bytes) why peer)
+    refused = either_like (is_refusal why) peer _ _ (like peer) (like peer)
 
 -- what holds of all that are like one, and still does once a machine is gone, holds after a poll's looks
 module _ (At : Peered → Type 0) (as_like : (old new : Peered) → AreLike old new → At old → At new)
@@ -88,10 +101,13 @@ module _ (At : Peered → Type 0) (as_like : (old new : Peered) → AreLike old 
       let before : Peered = farewell_until m peer in
       as_like before (farewell_at m before) (either_like _ before _ _ (like before) (like before)) (farewell_so m peer at)
 
+  strangers_so : (now : ℕ) (peer : Peered) → At peer → At (strangers_told now peer)
+  strangers_so now peer at = as_like peer (strangers_told now peer) (strangers_like now peer) at
+
   looked_so : (now k : ℕ) (peer : Peered) → At peer → At (looked_after now k peer)
   looked_so now k peer at =
-      farewell_so k _ (missed_so now k _ (hushed_so now k _ (watched_so now k _ (silenced_so now k (most_noted now peer)
-      (as_like peer (most_noted now peer) (most_like now peer) at)))))
+      farewell_so k _ (strangers_so now _ (missed_so now k _ (hushed_so now k _ (watched_so now k _
+      (silenced_so now k (most_noted now peer) (as_like peer (most_noted now peer) (most_like now peer) at))))))
 
   -- up to where players leave
   pub seen_so : (now k frame : ℕ) (peer : Peered) → At peer → At (looked_after now k (moved_to frame peer))

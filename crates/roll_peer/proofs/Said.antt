@@ -10,8 +10,8 @@ use Rattle.roll_peer.specs.Peered.{contact_at, Peered}
 use Rattle.roll_peer.specs.Receiving.{byte_at, deaf_to, ignored_sized, key_of, moment_of, open_by, opened, sender_of, unheard_in}
 use Rattle.roll_peer.specs.Sending.{after_send, is_lost, stats_of, with_sent}
 use Rattle.roll_peer.specs.declared.receiving.TheConstants.{KIND_AT}
-use Rattle.roll_peer.specs.Turning.{are_ready, begun, lead_in, over}
-use Rattle.roll_peer.specs.declared.event.PeerEvent.TheVariants.{Running, TimeSync}
+use Rattle.roll_peer.specs.Turning.{are_ready, begun, is_mistaken, lead_in, over, strangers_told}
+use Rattle.roll_peer.specs.declared.event.PeerEvent.TheVariants.{Running, Strangers, TimeSync}
 
 pub opened_is : (peer : Peered) (bytes : List ℕ)
     → opened peer bytes ≡ open_by peer.settings.takes_marks (key_of peer (sender_of bytes) (byte_at bytes KIND_AT)) bytes
@@ -36,6 +36,15 @@ pub begun_is : (peer : Peered) → begun peer
     then record peer { running = true; waiting = pushed peer.waiting Running } else peer)
 unfolding begun
 begun_is peer = refl
+
+pub strangers_told_is : (now : ℕ) (peer : Peered) → strangers_told now peer
+    ≡ (if is_mistaken peer now
+    then record peer {
+      strangers = record peer.strangers { told = true };
+      waiting = pushed peer.waiting (Strangers peer.strangers.count);
+    } else peer)
+unfolding strangers_told
+strangers_told_is now peer = refl
 
 pub after_send_is : (peer : Peered) (m : ℕ) → after_send peer m
     ≡ (if is_lost peer m then peer

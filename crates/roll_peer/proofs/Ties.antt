@@ -8,8 +8,8 @@ use Rattle.roll_mesh.specs.Machines.{leave}
 use Rattle.roll_session.specs.Seen.{Seen}
 use Rattle.roll_peer.specs.Peered.{Peered}
 use Rattle.roll_peer.specs.CutOffs.{cut_off_since, most_noted}
-use Rattle.roll_peer.specs.Turning.{begun, farewell_until, hushed_until, looked_after, missed_until, moved_to, silenced_until, stall_told, timed, watched_until, without}
-use Rattle.roll_peer.proofs.Said.{begun_is, over_is}
+use Rattle.roll_peer.specs.Turning.{begun, farewell_until, hushed_until, looked_after, missed_until, moved_to, silenced_until, stall_told, strangers_told, timed, watched_until, without}
+use Rattle.roll_peer.proofs.Said.{begun_is, over_is, strangers_told_is}
 
 module _ (s : Seen) where
   abbrev IsTiedTo : Peered → Type 0
@@ -53,6 +53,10 @@ module _ (s : Seen) where
   missed_tied now (suc m) peer h =
       let before = missed_tied now m peer h in either _ _ _ before before
 
+  strangers_tied : (now : ℕ) (peer : Peered) → IsTiedTo peer → IsTiedTo (strangers_told now peer)
+  strangers_tied now peer h =
+      subst (λ (p : Peered). IsTiedTo p) (sym (strangers_told_is now peer)) (either _ _ _ h h)
+
   farewell_tied : (k : ℕ) (peer : Peered) → IsTiedTo peer → IsTiedTo (farewell_until k peer)
   unfolding farewell_until
   farewell_tied zero peer h = h
@@ -73,8 +77,8 @@ module _ (s : Seen) where
   pub looked_tied : (now k frame : ℕ) (peer : Peered) → IsTiedTo peer
       → IsTiedTo (looked_after now k (moved_to frame peer))
   looked_tied now k frame peer h =
-      farewell_tied k _ (missed_tied now k _ (hushed_tied now k _ (watched_tied now k _
-      (silenced_tied now k (most_noted now (moved_to frame peer)) (most_tied now (moved_to frame peer) (moved_tied frame peer h))))))
+      farewell_tied k _ (strangers_tied now _ (missed_tied now k _ (hushed_tied now k _ (watched_tied now k _
+      (silenced_tied now k (most_noted now (moved_to frame peer)) (most_tied now (moved_to frame peer) (moved_tied frame peer h)))))))
 
   pub begun_tied : (peer : Peered) → IsTiedTo peer → IsTiedTo (begun peer)
   begun_tied peer h = subst (λ (p : Peered). IsTiedTo p) (sym (begun_is peer)) (either _ _ _ h h)

@@ -1,7 +1,7 @@
 -- The numbers of a peer's events.
 use Rattle.std.specs.Prelude.{ℕ}
 use Rattle.roll_peer.specs.declared.event.PeerEvent.{PeerEvent}
-use Rattle.roll_peer.specs.declared.event.PeerEvent.TheVariants.{Synchronizing, Synchronized, Running, DisconnectedFromPeer, TimeSync, Interrupted, Resumed, Desync, Mismatch, Dropped, Left, Restarted, Stalled, Refused, Missing, CutOff}
+use Rattle.roll_peer.specs.declared.event.PeerEvent.TheVariants.{Synchronizing, Synchronized, Running, DisconnectedFromPeer, TimeSync, Interrupted, Resumed, Desync, Mismatch, Dropped, Left, Restarted, Stalled, Refused, Missing, CutOff, Strangers}
 
 -- those of ggponet.h, and the peer's own above 1100
 abbrev pub code_of : PeerEvent → ℕ
@@ -21,3 +21,4 @@ code_of (Stalled machine disconnect_in) = 1106
 code_of (Refused machine) = 1107
 code_of (Missing machine) = 1108
 code_of (CutOff over_in) = 1109
+code_of (Strangers count) = 1110

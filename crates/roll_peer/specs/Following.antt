@@ -12,6 +12,7 @@ use Rattle.roll_peer.specs.Peered.{contact_at, first_cut_off, BeginsAs, Peered}
 use Rattle.roll_peer.specs.Receiving.{knowing_of, moment_of}
 use Rattle.roll_peer.specs.Sending.{is_lost}
 use Rattle.roll_peer.specs.Stalls.{first_stall}
+use Rattle.roll_peer.specs.Strangers.{no_strangers}
 use Rattle.roll_peer.specs.declared.following.Seating.{Seating}
 use Rattle.roll_peer.specs.declared.following.Seating.TheVariants.{Stays, Comes, Empty}
 use Rattle.roll_peer.specs.declared.settings.MatchSettings.{MatchSettings}
@@ -64,6 +65,8 @@ pub record IsFollowedAs (s : Seen) (settings : MatchSettings) (old : Peered) (se
   pub cut_off : peer.cut_off ≡ first_cut_off
   pub marks : peer.marks ≡ replicate PLAYER_LIMIT None
   pub voids : peer.voids ≡ replicate PLAYER_LIMIT false
+  pub opened : peer.opened ≡ moment_of old
+  pub strangers : peer.strangers ≡ no_strangers
 
 -- ---- two networks of one machine, of epochs that follow one another
 

@@ -8,12 +8,12 @@ use Rattle.roll_session.specs.Seen.{Seen, Step}
 use Rattle.roll_wire.specs.Spelling.{Content, Greets, Leaves, Plays}
 use Rattle.roll_peer.specs.Following.{heard_beside}
 use Rattle.roll_peer.specs.Peered.{contact_at, Peered}
-use Rattle.roll_peer.specs.Receiving.{after_ignored, ignored, opened, sender_of, Receives}
+use Rattle.roll_peer.specs.Receiving.{after_ignored, ignored, opened, sender_of, with_stranger, Receives}
 use Rattle.roll_peer.specs.Settings.{number_for}
 use Rattle.roll_peer.specs.Turning.{Polls}
 use Rattle.roll_peer.specs.Waiting.{Waiting}
 use Rattle.roll_peer.specs.declared.event.PeerEvent.{PeerEvent}
-use Rattle.roll_peer.specs.declared.event.PeerEvent.TheVariants.{Synchronizing, Synchronized, Running, DisconnectedFromPeer, TimeSync, Interrupted, Resumed, Desync, Mismatch, Dropped, Left, Restarted, Stalled, Refused, Missing, CutOff}
+use Rattle.roll_peer.specs.declared.event.PeerEvent.TheVariants.{Synchronizing, Synchronized, Running, DisconnectedFromPeer, TimeSync, Interrupted, Resumed, Desync, Mismatch, Dropped, Left, Restarted, Stalled, Refused, Missing, CutOff, Strangers}
 use Rattle.roll_peer.specs.declared.received.Ignored.{Ignored}
 use Rattle.roll_peer.specs.declared.received.Received.{Received}
 
@@ -63,6 +63,7 @@ machine_in (Stalled machine disconnect_in) = Some machine
 machine_in (Refused machine) = Some machine
 machine_in (Missing machine) = Some machine
 machine_in (CutOff over_in) = None
+machine_in (Strangers count) = None
 
 -- it names none, or one of so many
 abbrev pub IsNamed : ℕ → PeerEvent → Type 0
@@ -87,7 +88,7 @@ pub record EventsNameMachines : Type 0 where
       → AreNamed old.settings.machines new.waiting
   pub refused : (old : Peered) (bytes : List ℕ) (why : Ignored) → IsSeatedSo old
       → NamesMachines old → ignored old bytes ≡ Some why
-      → AreNamed old.settings.machines (after_ignored (sender_of bytes) why old).waiting
+      → AreNamed old.settings.machines (with_stranger bytes why (after_ignored (sender_of bytes) why old)).waiting
   pub polled : (before after : Seen) (old new : Peered) (refusal : Option Refusal) → NamesMachines old
       → Polls before after old new refusal → AreNamed old.settings.machines new.waiting
   pub heard_beside : (old other : Peered) (machine : ℕ) → IsSeatedSo old → NamesMachines old

@@ -11,6 +11,7 @@ pub mod Peered
 pub mod Following
 pub mod Judging
 pub mod Stalls
+pub mod Strangers
 pub mod Receiving
 pub mod Marking
 pub mod Turning

@@ -1,8 +1,8 @@
 -- The network of a match at one machine, as its callers see it: what it knows of who has what and who is gone, and of which session;
 -- its clock, what it knows of each machine and for how long each has held up the match, whether the match has begun, the events that
 -- wait, the machines that were told to be gone, the digests of settled states, how far the machines are from one another, the
--- session's frame when it was polled last; whether it hears most of them; and the marks of words that it knows, and which are void. The
--- session stands beside it.
+-- session's frame when it was polled last; whether it hears most of them; the marks of words that it knows, and which are void; when it
+-- was opened, and the hellos that came of no machine of the match. The session stands beside it.
 use Rattle.std.specs.Prelude.{◌≡◌, ℕ, List, [], Bool, false, true, Option, Some, None, fold, replicate, slice_index_or, ⊤}
 use Rattle.roll_member.specs.Beside.{Membership}
 use Rattle.roll_member.specs.Joined.{join_refusal, IsJoinedAs, IsTied, Joined}
@@ -19,6 +19,7 @@ use Rattle.roll_peer.specs.Digests.{no_digests}
 use Rattle.roll_peer.specs.Paces.{no_pace}
 use Rattle.roll_peer.specs.Settings.{first_moment, seat_of}
 use Rattle.roll_peer.specs.Stalls.{first_stall}
+use Rattle.roll_peer.specs.Strangers.{no_strangers}
 use Rattle.roll_peer.specs.Waiting.{Waiting}
 use Rattle.roll_peer.specs.declared.cut_off.CutOff.{CutOff}
 use Rattle.roll_peer.specs.declared.digests.Digests.{Digests}
@@ -27,6 +28,7 @@ use Rattle.roll_peer.specs.declared.refusal.OpenRefusal.{OpenRefusal}
 use Rattle.roll_peer.specs.declared.refusal.OpenRefusal.TheVariants.{Join, NoDraw, NoMemory}
 use Rattle.roll_peer.specs.declared.settings.MatchSettings.{MatchSettings}
 use Rattle.roll_peer.specs.declared.stall.Stall.{Stall}
+use Rattle.roll_peer.specs.declared.strangers.Strangers.{Strangers}
 
 pub record Peered : Type 0 where
   pub member : Membership
@@ -43,6 +45,8 @@ pub record Peered : Type 0 where
   pub cut_off : CutOff
   pub marks : List (Option Marked)
   pub voids : List Bool
+  pub opened : ℕ
+  pub strangers : Strangers
 
 -- the session beside what is known of the others
 abbrev pub beside : Seen → Peered → Joined
@@ -92,6 +96,8 @@ pub record IsOpenedAs (s : Seen) (settings : MatchSettings) (peer : Peered) : Ty
   pub cut_off : peer.cut_off ≡ first_cut_off
   pub marks : peer.marks ≡ replicate PLAYER_LIMIT None
   pub voids : peer.voids ≡ replicate PLAYER_LIMIT false
+  pub opened : peer.opened ≡ first_moment settings
+  pub strangers : peer.strangers ≡ no_strangers
 
 -- why it can't be opened
 abbrev pub IsWhyNot : Seen → MatchSettings → OpenRefusal → Type 0

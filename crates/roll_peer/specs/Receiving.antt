@@ -1,5 +1,5 @@
 -- Bytes are heard.
-use Rattle.std.specs.Prelude.{◌≡◌, ◌⊎◌, ℕ, List, length, Bool, true, false, ◌&&◌, ◌==◌, not, nat_le, is_some, Option, Some, None, Result, Ok, Err, if◌then◌else◌, slice_index_or, slice_set}
+use Rattle.std.specs.Prelude.{◌≡◌, ◌⊎◌, ℕ, List, length, Bool, true, false, ◌&&◌, ◌==◌, not, nat_le, nat_lt, is_some, Option, Some, None, Result, Ok, Err, if◌then◌else◌, slice_index_or, slice_set}
 use Rattle.roll_contact.specs.Clocks.{ticked}
 use Rattle.roll_contact.specs.Contacts.{after_hello, after_play, heard, is_playing, refused}
 use Rattle.roll_contact.specs.Keys.{greeting_key}
@@ -16,7 +16,7 @@ use Rattle.roll_mesh.specs.Meshes.{is_had, stepped}
 use Rattle.roll_session.specs.Seen.{Seen, Step}
 use Rattle.roll_wire.specs.declared.datagram.Body.{Body}
 use Rattle.roll_wire.specs.declared.datagram.Clocks.{Clocks}
-use Rattle.roll_mesh.specs.declared.limits.TheConstants.{PLAYER_LIMIT}
+use Rattle.roll_mesh.specs.declared.limits.TheConstants.{MACHINE_LIMIT, PLAYER_LIMIT}
 use Rattle.roll_wire.specs.declared.datagram.Hello.{Hello}
 use Rattle.roll_wire.specs.declared.datagram.Marked.{Marked}
 use Rattle.roll_wire.specs.declared.fault.WireFault.{WireFault}
@@ -28,6 +28,7 @@ use Rattle.roll_peer.specs.Marks.{end_among, kept_with, told_with}
 use Rattle.roll_peer.specs.Notices.{after_heard, desync, dropped, told}
 use Rattle.roll_peer.specs.Peered.{beside, contact_at, Peered}
 use Rattle.roll_peer.specs.Settings.{number_for, opening_of, terms_of}
+use Rattle.roll_peer.specs.Strangers.{one_stranger_more}
 use Rattle.roll_peer.specs.declared.received.Ignored.{Ignored}
 use Rattle.roll_peer.specs.declared.received.Ignored.TheVariants.{NotSealed, NoDatagram, InvalidMachine, OwnMachine, MachineGone, OtherSession, Outside, Overstated}
 use Rattle.roll_peer.specs.declared.received.Received.{Received}
@@ -173,6 +174,28 @@ refused_of m peer = knowing_of m (refused (contact_at peer m)) peer
 abbrev pub after_ignored : ℕ → Ignored → Peered → Peered
 after_ignored sender why peer = if is_refusal why then refused_of sender peer else peer
 
+-- whether bytes greet, as a hello of a machine does, whoever sealed it
+abbrev pub greets : List ℕ → Bool
+greets bytes = is_sized bytes && (byte_at bytes KIND_AT == 0 && nat_lt (sender_of bytes) MACHINE_LIMIT)
+
+-- whether a hello that was ignored for this is of no other machine of the match: it is sealed by another number, has this machine's
+-- place or one that there isn't, or is of another version
+abbrev pub is_unknown : Ignored → Bool
+is_unknown NotSealed = true
+is_unknown (NoDatagram fault) = true
+is_unknown InvalidMachine = true
+is_unknown OwnMachine = true
+is_unknown MachineGone = false
+is_unknown OtherSession = false
+is_unknown Outside = false
+is_unknown Overstated = false
+
+-- a hello that isn't of this match is counted
+abbrev pub with_stranger : List ℕ → Ignored → Peered → Peered
+with_stranger bytes why peer =
+    if greets bytes && is_unknown why
+    then record peer { strangers = one_stranger_more peer.strangers } else peer
+
 -- ---- what is heard
 
 -- what is known of a machine once its turn was heard, of which words may have been refused
@@ -251,9 +274,9 @@ pub record Receives (step : Step) (before after : Seen) (old new : Peered) (byte
   pub hears : Hears step before after old new (sender_of bytes) what received
 
 -- why bytes that come for a session aren't heard, and what becomes of it: nothing, if the session is another; else what its sender
--- sealed is counted and told
+-- sealed is counted and told, and a hello that isn't of this match is counted
 abbrev pub IsIgnored : Seen → (old new : Peered) → List ℕ → Ignored → Type 0
 IsIgnored s old new bytes why =
     (IsOther s old × (why ≡ OtherSession) × (new ≡ old))
     ⊎ (IsOf s old.member × (ignored (meeting s old) bytes ≡ Some why)
-    × (new ≡ after_ignored (sender_of bytes) why (meeting s old)))
+    × (new ≡ with_stranger bytes why (after_ignored (sender_of bytes) why (meeting s old))))

@@ -23,11 +23,11 @@ use Rattle.roll_peer.specs.CutOffs.{most_noted}
 use Rattle.roll_peer.specs.Events.{pushed}
 use Rattle.roll_peer.specs.Notices.{interrupted, player_left, told, told_of}
 use Rattle.roll_peer.specs.Paces.{paced, slowest, wait_of}
-use Rattle.roll_peer.specs.declared.event.PeerEvent.TheVariants.{Running, TimeSync, Left, Missing, Stalled}
+use Rattle.roll_peer.specs.declared.event.PeerEvent.TheVariants.{Running, TimeSync, Left, Missing, Stalled, Strangers}
 use Rattle.roll_peer.specs.Peered.{beside, contact_at, stall_at, Peered}
 use Rattle.roll_peer.specs.Receiving.{meeting, moment_of, IsOther}
-use Rattle.roll_peer.specs.Settings.{first_moment}
 use Rattle.roll_peer.specs.Stalls.{held_for, is_overdue, is_to_tell, watched}
+use Rattle.roll_peer.specs.Strangers.{are_to_tell}
 use Rattle.roll_peer.specs.declared.refusal.PeerRefusal.{PeerRefusal}
 use Rattle.roll_peer.specs.declared.refusal.PeerRefusal.TheVariants.{OtherSession, Session}
 
@@ -109,11 +109,11 @@ unfoldable pub hushed_until : ℕ → ℕ → Peered → Peered
 hushed_until now zero peer = peer
 hushed_until now (suc m) peer = hushed_at now m (hushed_until now m peer)
 
--- whether this machine was opened so long ago that the others should have come
+-- whether this network was opened so long ago that the others should have come
 abbrev pub has_waited : Peered → ℕ → Bool
 has_waited peer now =
     nat_lt 0 peer.settings.silent_after
-    && nat_lt peer.settings.silent_after (since now (first_moment peer.settings))
+    && nat_lt peer.settings.silent_after (since now peer.opened)
 
 -- whether it is to be told that a machine hasn't come
 abbrev pub is_missed : Peered → ℕ → ℕ → Bool
@@ -133,6 +133,21 @@ missed_at now m peer =
 unfoldable pub missed_until : ℕ → ℕ → Peered → Peered
 missed_until now zero peer = peer
 missed_until now (suc m) peer = missed_at now m (missed_until now m peer)
+
+-- whether it is to be told that strangers came: some did, and a machine didn't that should have
+abbrev pub is_mistaken : Peered → ℕ → Bool
+is_mistaken peer now =
+    has_waited peer now
+    && (are_to_tell peer.strangers && not (are_ready peer peer.member.mesh))
+
+unfoldable pub strangers_told : ℕ → Peered → Peered
+strangers_told now peer =
+    if is_mistaken peer now
+    then record peer {
+      strangers = record peer.strangers { told = true };
+      waiting = pushed peer.waiting (Strangers peer.strangers.count);
+    }
+    else peer
 
 -- a machine is told to be gone, once
 abbrev pub farewell_at : ℕ → Peered → Peered
@@ -184,8 +199,8 @@ moved_to frame peer = if frame == peer.frame then peer else over (record peer { 
 -- it is looked at whether this machine hears most; machine by machine: who was silent for too long is gone, and so is who held up the match for too long; what is due is told
 abbrev pub looked_after : ℕ → ℕ → Peered → Peered
 looked_after now machines peer =
-    farewell_until machines (missed_until now machines (hushed_until now machines
-    (watched_until now machines (silenced_until now machines (most_noted now peer)))))
+    farewell_until machines (strangers_told now (missed_until now machines (hushed_until now machines
+    (watched_until now machines (silenced_until now machines (most_noted now peer))))))
 
 -- a poll of a session that was met, and why a player who is to leave is still there
 pub record Polls (before after : Seen) (old new : Peered) (refusal : Option Refusal) : Type 0 where

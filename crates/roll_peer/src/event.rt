@@ -98,6 +98,12 @@ pub enum PeerEvent {
         /// The machine.
         machine: u8,
     },
+    /// A machine hasn't come so far, and hellos have that aren't of this match: their machines mean another match, or have another
+    /// version, or one of them has this one's place.
+    Strangers {
+        /// How many of them came since this network was opened.
+        count: u32,
+    },
 }
 
 impl PeerEvent {
@@ -122,6 +128,7 @@ impl PeerEvent {
             PeerEvent::Refused { .. } => 1107,
             PeerEvent::Missing { .. } => 1108,
             PeerEvent::CutOff { .. } => 1109,
+            PeerEvent::Strangers { .. } => 1110,
         }
     }
 }

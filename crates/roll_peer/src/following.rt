@@ -15,6 +15,7 @@ use crate::peer::Peer;
 use crate::refusal::OpenRefusal;
 use crate::settings::MatchSettings;
 use crate::stall::Stall;
+use crate::strangers::Strangers;
 use roll_contact::Contact;
 use roll_member::Member;
 use roll_mesh::{MACHINE_LIMIT, PLAYER_LIMIT};
@@ -86,6 +87,8 @@ impl Peer {
                 cut_off: CutOff::new(),
                 marks: [None; PLAYER_LIMIT],
                 voids: [false; PLAYER_LIMIT],
+                opened: self.clock.moment,
+                strangers: Strangers::new(),
             }),
             Err(why) => Err(OpenRefusal::Join(why)),
         }

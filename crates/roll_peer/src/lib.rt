@@ -21,6 +21,7 @@ mod sending;
 mod settings;
 mod stall;
 mod stats;
+mod strangers;
 mod turning;
 
 pub use cut_off::CutOff;

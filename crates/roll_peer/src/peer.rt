@@ -20,6 +20,7 @@ use crate::pace::Pace;
 use crate::refusal::{OpenRefusal, OtherSession};
 use crate::settings::MatchSettings;
 use crate::stall::Stall;
+use crate::strangers::Strangers;
 use roll_contact::{Clock, Contact, Stage};
 use roll_member::Member;
 use roll_mesh::{MACHINE_LIMIT, Mesh, MeshRefusal, PLAYER_LIMIT};
@@ -51,6 +52,8 @@ pub struct Peer {
     pub(crate) cut_off: CutOff,
     pub(crate) marks: KnownMarks,
     pub(crate) voids: [bool; PLAYER_LIMIT],
+    pub(crate) opened: u32,
+    pub(crate) strangers: Strangers,
 }
 
 /// A clause sees all of it.
@@ -78,6 +81,8 @@ impl Model for Peer {
       cut_off = p.cut_off;
       marks = p.marks;
       voids = p.voids;
+      opened = p.opened;
+      strangers = p.strangers;
     } };
 
     ghost invariant = { λ p. (p.member.mesh.seat ≡ seat_of p.settings)
@@ -126,6 +131,8 @@ impl Peer {
                 cut_off: CutOff::new(),
                 marks: [None; PLAYER_LIMIT],
                 voids: [false; PLAYER_LIMIT],
+                opened: settings.first_moment(),
+                strangers: Strangers::new(),
             }),
             Err(why) => Err(OpenRefusal::Join(why)),
         }

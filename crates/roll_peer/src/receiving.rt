@@ -8,7 +8,7 @@ ghost use Rattle.roll_member.specs.Joined.{IsTied};
 ghost use Rattle.roll_mesh.specs.Meshes.{is_had};
 ghost use Rattle.roll_peer.specs.Marks.{is_spelled_in};
 ghost use Rattle.roll_peer.specs.Peered.{beside, contact_at};
-ghost use Rattle.roll_peer.specs.Receiving.{after_ignored, after_words, byte_at, deaf_to, end_for, ignored, ignored_sized, is_refusal, is_sized, key_of, knowing, marks_after, meeting, moment_of, open_by, opened, packet_of, read_text, refused_of, sender_of, ticking, unheard, unplayed, Hears, HearsBye, HearsHello, HearsTurn, IsIgnored, IsOpened, Receives};
+ghost use Rattle.roll_peer.specs.Receiving.{after_ignored, after_words, byte_at, deaf_to, end_for, greets, ignored, ignored_sized, is_refusal, is_sized, is_unknown, key_of, knowing, marks_after, meeting, moment_of, open_by, opened, packet_of, read_text, refused_of, sender_of, ticking, unheard, unplayed, with_stranger, Hears, HearsBye, HearsHello, HearsTurn, IsIgnored, IsOpened, Receives};
 ghost use Rattle.roll_wire.specs.Reading.{Gives};
 ghost use Rattle.roll_wire.specs.Spelling.{are_spelled, content, message, turn, Plays};
 
@@ -18,7 +18,7 @@ use crate::received::{Ignored, Received};
 use roll_contact::seal::unseal;
 use roll_contact::{Contact, Key};
 use roll_member::Taken;
-use roll_mesh::Packet;
+use roll_mesh::{MACHINE_LIMIT, Packet};
 use roll_session::Networked;
 use roll_wire::{
     Body, Clocks, DATAGRAM_LIMIT, Datagram, Hello, Play, WireFault, decode, decode_unmarked,
@@ -34,12 +34,13 @@ const HEAD: usize = 14;
 impl Peer {
     /// Hears bytes that came by the network, at a moment. Words that they hold become words of the session, and what its sender
     /// knows is known here; nothing else changes. What isn't of this match, or of another opening of its sender or of this machine,
-    /// changes nothing. It takes memory for the log alone, and none for events that were reserved.
+    /// changes nothing, but that hellos which aren't of this match are counted. It takes memory for the log alone, and none for events
+    /// that were reserved.
     ///
     /// # Errors
     ///
-    /// Why they weren't heard. Then nothing changed but the clock; and of what its sender sealed it is counted and told that it was
-    /// refused.
+    /// Why they weren't heard. Then nothing changed but the clock and the count of strangers; and of what its sender sealed it is
+    /// counted and told that it was refused.
     pub fn receive<S: Networked>(
         &mut self,
         session: &mut S,
@@ -64,7 +65,22 @@ impl Peer {
         if !is_sized(bytes) {
             return Err(Ignored::NotSealed);
         }
-        self.receive_sized(session, bytes)
+        match self.receive_sized(session, bytes) {
+            Ok(received) => Ok(received),
+            Err(why) => {
+                self.note_stranger(bytes, why);
+                Err(why)
+            }
+        }
+    }
+
+    /// A hello that isn't of this match is counted.
+    fn note_stranger(&mut self, bytes: &[u8], why: Ignored)
+        ensures { self.new ≡ with_stranger bytes.now why self.old }
+    {
+        if greets(bytes) && is_unknown(why) {
+            self.strangers.note();
+        }
     }
 
     /// Hears bytes that are as many as a datagram has, at the moment that the clock shows.
@@ -398,6 +414,15 @@ fn is_sized(bytes: &[u8]) -> bool
     HEAD <= bytes.len() && bytes.len() <= DATAGRAM_LIMIT
 }
 
+/// Whether bytes greet, as a hello of a machine does, whoever sealed it.
+fn greets(bytes: &[u8]) -> bool
+    ensures { result ≡ greets bytes.now }
+{
+    is_sized(bytes)
+        && byte_of(bytes, KIND_AT) == 0
+        && usize::from(byte_of(bytes, SENDER_AT)) < MACHINE_LIMIT
+}
+
 /// The byte at a place, 0 if there is none.
 fn byte_of(bytes: &[u8], place: usize) -> u8
     ensures { result ≡ byte_at bytes.now place }
@@ -438,6 +463,16 @@ fn is_refusal(why: Ignored) -> bool
     matches!(
         why,
         Ignored::NoDatagram(_) | Ignored::Outside | Ignored::Overstated
+    )
+}
+
+/// Whether a hello that was ignored for this is of no other machine of the match.
+fn is_unknown(why: Ignored) -> bool
+    ensures { result ≡ is_unknown why }
+{
+    matches!(
+        why,
+        Ignored::NotSealed | Ignored::NoDatagram(_) | Ignored::InvalidMachine | Ignored::OwnMachine
     )
 }
 

@@ -6,7 +6,7 @@ ghost use Rattle.roll_mesh.specs.declared.limits.TheConstants.{MACHINE_LIMIT};
 ghost use Rattle.roll_peer.specs.Receiving.{meeting, moment_of, ticking};
 ghost use Rattle.roll_peer.specs.Rolling.{RollsOnce, TurnsOnce};
 ghost use Rattle.roll_session.specs.Changes.{after_sync, sync_refusal, IsRollRefused};
-ghost use Rattle.roll_peer.specs.Turning.{are_ready, begun, ends_in_roll, farewell_at, farewell_until, has_waited, held_up_by, hushed_at, hushed_until, is_graft, is_missed, is_ready_at, is_roll, looked_after, missed_at, missed_until, moved_to, over, silenced_at, silenced_until, stall_told, watched_at, watched_until, IsParted, IsPolled, IsUpToDate, Plays, Polls, Turns};
+ghost use Rattle.roll_peer.specs.Turning.{are_ready, begun, ends_in_roll, farewell_at, farewell_until, has_waited, held_up_by, hushed_at, hushed_until, is_graft, is_missed, is_mistaken, is_ready_at, is_roll, looked_after, missed_at, missed_until, moved_to, over, silenced_at, silenced_until, stall_told, strangers_told, watched_at, watched_until, IsParted, IsPolled, IsUpToDate, Plays, Polls, Turns};
 
 use crate::event::PeerEvent;
 use crate::peer::Peer;
@@ -93,6 +93,7 @@ impl Peer {
         self.watch(machines, now);
         self.hush(machines, now);
         self.miss(machines, now);
+        self.tell_strangers(now);
         self.tell_who_is_gone(machines);
     }
 
@@ -240,12 +241,29 @@ impl Peer {
         self.has_waited(now) && !self.stalls[usize::from(machine)].missed && !self.is_ready(machine)
     }
 
-    /// Whether this machine was opened so long ago that the others should have come.
+    /// Whether this network was opened so long ago that the others should have come.
     fn has_waited(&self, now: u32) -> bool
         ensures { result ≡ has_waited self.now now }
     {
-        let waited = since(now, self.settings.first_moment());
+        let waited = since(now, self.opened);
         self.settings.silent_after > 0 && waited > self.settings.silent_after
+    }
+
+    /// Tells of hellos that aren't of this match, if a machine hasn't come that should have.
+    #[tactic(auto, using(crate::proofs::Said::strangers_told_is))]
+    fn tell_strangers(&mut self, now: u32)
+        ensures { self.new ≡ strangers_told now self.old }
+    {
+        if self.is_mistaken(now) {
+            let count = self.strangers.tell();
+            self.events.push(PeerEvent::Strangers { count });
+        }
+    }
+
+    fn is_mistaken(&self, now: u32) -> bool
+        ensures { result ≡ is_mistaken self.now now }
+    {
+        self.has_waited(now) && self.strangers.are_to_tell() && !self.are_ready()
     }
 
     /// Tells which machines are gone, each once.

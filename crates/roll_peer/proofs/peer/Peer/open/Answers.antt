@@ -22,6 +22,8 @@ returns-in-Ok-join-clause-opened g c = record {
   frame = c.frame.ensures;
   marks = refl;
   voids = refl;
+  opened = c.first_moment-in-Ok-join.ensures;
+  strangers = c.new-in-Ok-join-7.ensures;
 }
 
 pub returns-in-Ok-join-clause-begins : goal.returns-in-Ok-join-clause-begins
