@@ -20,7 +20,7 @@ typedef struct ice_settings {
 /* A text that is told has less than so many bytes, and a way tells less than so many of them. */
 enum { ICE_TEXT = 256, ICE_TEXTS = 48 };
 
-/* Begins to look for a way; null if there is no memory or no socket. */
+/* Begins to look for a way; null if there is no memory or no socket, or nothing to hide behind for `relay_only`. */
 ice *ice_open(const ice_settings *settings);
 
 /* Sends and takes what is due, and calls `came` for each datagram. */

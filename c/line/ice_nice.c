@@ -44,9 +44,17 @@ static void tell(ice *self, const char *kind, const char *first, const char *sec
         self->texts++;
 }
 
+/* A place on a relay is told with the address that has asked for it, which is this machine's: by a relay alone it is told without. */
 static void on_candidate(NiceAgent *agent, NiceCandidate *candidate, gpointer of) {
+    ice *self = of;
+    bool is_hidden = self->settings.line->relay_only;
+    if (is_hidden && candidate->type != NICE_CANDIDATE_TYPE_RELAYED)
+        return;
     gchar *text = nice_agent_generate_local_candidate_sdp(agent, candidate);
-    tell(of, "c", text, "");
+    gchar *own = is_hidden ? strstr(text, " raddr ") : NULL;
+    if (own != NULL)
+        *own = 0;
+    tell(self, "c", text, is_hidden ? "raddr 0.0.0.0 rport 0" : "");
     g_free(text);
 }
 

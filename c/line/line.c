@@ -4,6 +4,7 @@
 #include <sodium.h>
 #include <stdlib.h>
 #include <string.h>
+#include <unistd.h>
 
 /* Milliseconds. */
 enum {
@@ -42,6 +43,7 @@ typedef struct datagram {
 
 struct faz_line {
     faz_line_settings settings;
+    long process; /* whose it is */
     char stun[ADDRESS], address[FAZ_LINE_RELAYS][ADDRESS], user[FAZ_LINE_RELAYS][WORD], password[FAZ_LINE_RELAYS][WORD];
     seal seal;
     way newest, before; /* `before` was heard; it carries on until the newest is */
@@ -65,6 +67,12 @@ bool faz_line_draw(faz_line_keys *keys) {
 static uint32_t since(const faz_line *self, uint32_t moment) {
     uint32_t passed = self->now - moment;
     return passed < UINT32_C(1) << 31 ? passed : 0;
+}
+
+/* A process that was forked has the same keys and counters: what it sealed could be read beside what this one seals. So the line is closed
+ * there, and the sockets, which both have, are left to its owner. */
+static bool is_own(const faz_line *self) {
+    return self->process == (long)getpid();
 }
 
 /* ---- what comes */
@@ -108,7 +116,7 @@ static void came(void *of, ice *from, const uint8_t *bytes, size_t length) {
 }
 
 bool faz_line_receive(faz_line *self, uint8_t *out, size_t room, size_t *length) {
-    if (self->first == self->last || room < self->inbox[self->first % INBOX].length)
+    if (!is_own(self) || self->first == self->last || room < self->inbox[self->first % INBOX].length)
         return false;
     datagram *from = &self->inbox[self->first++ % INBOX];
     *length = from->length;
@@ -131,7 +139,7 @@ bool faz_line_send(faz_line *self, const uint8_t *bytes, size_t length) {
     uint8_t sealed[SEALED];
     bool by_newest = has_room(self, &self->newest, length);
     bool by_before = !self->newest.is_heard && has_room(self, &self->before, length);
-    if (length == 0 || length > FAZGROND_DATAGRAM || !(by_newest || by_before))
+    if (!is_own(self) || length == 0 || length > FAZGROND_DATAGRAM || !(by_newest || by_before))
         return false;
     size_t size = seal_put(&self->seal, sealed, bytes, length);
     bool is_sent = by_newest && send_by(&self->newest, sealed, size);
@@ -259,6 +267,10 @@ static void tidy(faz_line *self) {
 
 void faz_line_turn(faz_line *self, uint32_t now) {
     self->now = now;
+    if (!is_own(self)) {
+        seal_close(&self->seal);
+        return;
+    }
     if (!self->has_turned) {
         self->has_turned = true;
         self->newest.begun = self->heard_at = self->sent_at = self->told_at = self->looked_at = now;
@@ -293,7 +305,7 @@ bool faz_line_signal(faz_line *self, uint8_t *out, size_t room, size_t *length) 
     uint8_t inside[FAZ_LINE_SIGNAL - NOTE_OVERHEAD];
     size_t size = HEAD;
     self->is_asked = true;
-    if (newest->ice == NULL || newest->is_heard || room < FAZ_LINE_SIGNAL)
+    if (!is_own(self) || newest->ice == NULL || newest->is_heard || room < FAZ_LINE_SIGNAL)
         return false;
     if (newest->told > 0 && since(self, self->told_at) >= TOLD_AGAIN) {
         newest->told = 0;
@@ -320,6 +332,8 @@ static way *way_for(faz_line *self, uint32_t generation) {
 
 bool faz_line_signalled(faz_line *self, const uint8_t *bytes, size_t length) {
     uint8_t inside[FAZ_LINE_SIGNAL - NOTE_OVERHEAD];
+    if (!is_own(self))
+        return false;
     if (length > FAZ_LINE_SIGNAL || length < NOTE_OVERHEAD + HEAD + 1 || !seal_read(&self->seal, inside, bytes, length)) {
         self->counts.forged++;
         return false;
@@ -340,7 +354,7 @@ void faz_line_look(const faz_line *self, faz_line_state *state) {
     *state = self->counts;
     state->silence = since(self, self->heard_at);
     state->generation = self->newest.generation;
-    state->way = by->is_up ? ice_way(by->ice) : FAZ_LINE_NO_WAY;
+    state->way = by->is_up && is_own(self) ? ice_way(by->ice) : FAZ_LINE_NO_WAY;
     state->stage = self->was_up ? (state->silence < SILENT ? FAZ_LINE_UP : FAZ_LINE_SILENT)
                  : self->was_blocked ? FAZ_LINE_BLOCKED : FAZ_LINE_LOOKING;
 }
@@ -410,11 +424,13 @@ faz_line *faz_line_open(const faz_line_settings *settings, const char **why) {
         *why = "there is no memory";
         return NULL;
     }
+    self->process = (long)getpid();
     *why = copied(self, settings);
     if (*why == NULL)
         *why = keyed(self, settings);
     if (*why == NULL && !begin(self, 1))
-        *why = "there is no memory, or no socket";
+        *why = settings->relay_only ? "there is no memory, no socket, or, on a LAN, no relay to hide behind"
+                                    : "there is no memory, or no socket";
     if (*why != NULL) {
         faz_line_close(self);
         return NULL;
@@ -423,9 +439,7 @@ faz_line *faz_line_open(const faz_line_settings *settings, const char **why) {
     return self;
 }
 
-void faz_line_close(faz_line *self) {
-    if (self == NULL)
-        return;
+static void close_ways(faz_line *self) {
     retire(self, &self->newest);
     retire(self, &self->before);
     for (int waited = 0; !close_more(self) && waited < LAST; waited++)
@@ -433,6 +447,13 @@ void faz_line_close(faz_line *self) {
     for (size_t at = 0; at < CLOSING; at++)
         if (self->closing[at] != NULL)
             ice_drop(self->closing[at]);
+}
+
+void faz_line_close(faz_line *self) {
+    if (self == NULL)
+        return;
+    if (is_own(self))
+        close_ways(self);
     seal_close(&self->seal);
     free(self);
 }

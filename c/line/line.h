@@ -13,7 +13,10 @@
  *     .. faz_line_send(line, bytes, length);         // what fazgrond_peer_send made
  *
  * Whoever carries the signals can lose and delay them, and can't read or change them. But the open keys have to come from the right
- * machine: who can change them on their way can be either of the two to the other. */
+ * machine: who can change them on their way can be either of the two to the other.
+ *
+ * A line is closed in a process that was forked: it sends nothing there, and takes nothing. A virtual machine that is set back to a
+ * snapshot would seal by numbers that it has used, and whoever recorded both can read them: close its lines there, and open others. */
 #ifndef FAZ_LINE_H
 #define FAZ_LINE_H
 
@@ -54,7 +57,7 @@ typedef struct faz_line_settings {
     uint16_t stun_port;
     faz_line_relay relays[FAZ_LINE_RELAYS];
     uint32_t relay_count;
-    bool relay_only; /* the other machine isn't to see this one's address */
+    bool relay_only; /* the other machine isn't to see this one's address: it is told of places on relays alone */
     bool any_sender; /* packets of this library are taken whatever sender they name: see faz_line_receive */
 } faz_line_settings;
 

@@ -1,5 +1,6 @@
 /* Ways on a LAN, by a plain UDP socket and nothing else: it tells its addresses, and asks each of the other machine's until one
- * answers. What asks and answers has a word that the other machine's way told, so that nobody else's answer counts. */
+ * answers, so there is none for a machine that isn't to be seen. What asks and answers has a word that the other machine's way told, so that
+ * nobody else's answer counts. */
 #define _DEFAULT_SOURCE
 
 #include "ice.h"
@@ -76,7 +77,7 @@ static void tell_address(void *of, const struct sockaddr_in *address) {
 ice *ice_open(const ice_settings *settings) {
     struct sockaddr_in any = {.sin_family = AF_INET};
     char word[2 * WORD + 1];
-    ice *self = calloc(1, sizeof *self);
+    ice *self = settings->line->relay_only ? NULL : calloc(1, sizeof *self);
     if (self == NULL)
         return NULL;
     self->settings = *settings;

@@ -1,8 +1,14 @@
-/* What a line refuses to be opened with, what it does with keys, and how it waits for the other machine. */
+/* What a line refuses to be opened with, what it does with keys, how it waits for the other machine, and what a process has of it that was
+ * forked. HAS_RELAYS is 1, or 0 for lines on a LAN alone. */
+#define _POSIX_C_SOURCE 200809L
+
 #include "../line.h"
 
 #include <stdio.h>
 #include <string.h>
+#include <sys/wait.h>
+#include <time.h>
+#include <unistd.h>
 
 static int failures;
 
@@ -59,6 +65,84 @@ static void waits(void) {
     faz_line_close(line);
 }
 
+/* By a relay alone no line is opened where there are none. */
+static void hides(void) {
+    faz_line_keys keys, other;
+    IS(faz_line_draw(&keys) && faz_line_draw(&other));
+    IS(opens(&(faz_line_settings){.other = 1, .keys = &keys, .their = other.open, .relay_only = true}) == HAS_RELAYS);
+}
+
+static void turn_both(faz_line *const lines[2], uint32_t now) {
+    uint8_t bytes[FAZ_LINE_SIGNAL];
+    size_t length;
+    for (int at = 0; at < 2; at++) {
+        faz_line_turn(lines[at], now);
+        while (faz_line_signal(lines[at], bytes, sizeof bytes, &length))
+            IS(faz_line_signalled(lines[1 - at], bytes, length));
+    }
+    nanosleep(&(struct timespec){.tv_nsec = 1000000}, NULL);
+}
+
+static bool is_up(const faz_line *line) {
+    faz_line_state state;
+    faz_line_look(line, &state);
+    return state.stage == FAZ_LINE_UP && state.way != FAZ_LINE_NO_WAY;
+}
+
+/* What a process that was forked does with a line: it ends with 0 if that is closed. */
+static void use_forked(faz_line *line, uint32_t now) {
+    uint8_t bytes[FAZGROND_DATAGRAM] = {7};
+    faz_line_state state;
+    bool is_closed = !faz_line_send(line, bytes, 10);
+    for (uint32_t later = now; later < now + 2000; later += 100)
+        faz_line_turn(line, later);
+    faz_line_look(line, &state);
+    is_closed = is_closed && !faz_line_send(line, bytes, 10) && state.stage == FAZ_LINE_SILENT && state.way == FAZ_LINE_NO_WAY;
+    faz_line_close(line);
+    _exit(is_closed ? 0 : 1);
+}
+
+static void open_both(faz_line *lines[2]) {
+    faz_line_keys keys[2];
+    uint8_t theirs[2][FAZ_LINE_KEY];
+    const char *why;
+    for (int at = 0; at < 2; at++) {
+        IS(faz_line_draw(&keys[at]));
+        memcpy(theirs[1 - at], keys[at].open, FAZ_LINE_KEY);
+    }
+    for (uint32_t at = 0; at < 2; at++) {
+        lines[at] = faz_line_open(&(faz_line_settings){.me = at, .other = 1 - at, .keys = &keys[at], .their = theirs[at]}, &why);
+        IS(lines[at] != NULL);
+    }
+}
+
+/* A process that was forked sends nothing by the line that it has, and takes nothing from it: the other one goes on. */
+static void forks(void) {
+    uint8_t bytes[FAZGROND_DATAGRAM] = {0};
+    faz_line *lines[2];
+    faz_line_state state;
+    uint32_t now = 0;
+    size_t length = 0;
+    int status = -1, came = 0;
+    open_both(lines);
+    for (; now < 5000 && !(is_up(lines[0]) && is_up(lines[1])); now++)
+        turn_both(lines, now);
+    pid_t child = fork();
+    if (child == 0)
+        use_forked(lines[0], now);
+    IS(child > 0 && waitpid(child, &status, 0) == child && status == 0);
+    for (uint32_t until = now + 100; now < until; now++) {
+        IS(faz_line_send(lines[0], bytes, 10));
+        turn_both(lines, now);
+        while (faz_line_receive(lines[1], bytes, sizeof bytes, &length))
+            came++;
+    }
+    faz_line_look(lines[1], &state);
+    IS(came >= 99 && state.again == 0 && state.forged == 0);
+    faz_line_close(lines[0]);
+    faz_line_close(lines[1]);
+}
+
 int main(void) {
     faz_line_keys keys, other, none = {{0}, {0}};
     char longer[300];
@@ -109,5 +193,7 @@ int main(void) {
     faz_line_close(line);
     faz_line_close(NULL);
     waits();
+    hides();
+    forks();
     return failures != 0;
 }
