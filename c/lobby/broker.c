@@ -90,12 +90,24 @@ static natsStatus set_options(natsOptions *options, task *self) {
     return status;
 }
 
+/* What libnats says, without the line of its source that stands before it. */
+static const char *library_words(natsStatus status) {
+    const char *text = nats_GetLastError(NULL), *place = text != NULL && *text == '(' ? strstr(text, "): ") : NULL;
+    if (place != NULL)
+        text = place + 3;
+    return text != NULL && *text != 0 ? text : natsStatus_GetText(status);
+}
+
 static const char *why_not(const task *self, natsStatus status) {
-    const char *text = nats_GetLastError(NULL);
-    if (status == NATS_CONNECTION_AUTH_FAILED)
+    switch (status) {
+    case NATS_CONNECTION_AUTH_FAILED:
         return self->token[0] != 0 ? "the broker doesn't take this pass"
                                    : "the broker lets nobody in by this URL: it may want a pass in it";
-    return text != NULL && *text != 0 ? text : natsStatus_GetText(status);
+    case NATS_NO_SERVER: return "no broker answers at this URL";
+    case NATS_TIMEOUT: return "the broker doesn't answer";
+    case NATS_PROTOCOL_ERROR: return "what answers at this URL is no broker";
+    default: return library_words(status);
+    }
 }
 
 static void make(void *of) {

@@ -61,22 +61,11 @@ static void seat(faz_lobby *self, guest *one) {
     pair_words(&one->pair, event->text);
 }
 
-void host_note_gone(faz_lobby *self, const uint8_t open[KEY]) {
-    memcpy(self->hosting.gone[self->hosting.gones++ % GUESTS], open, KEY);
-}
-
-bool host_is_gone(const faz_lobby *self, const uint8_t open[KEY]) {
-    for (int at = 0; at < GUESTS; at++)
-        if (memcmp(self->hosting.gone[at], open, KEY) == 0)
-            return true;
-    return false;
-}
-
 /* Forgets a guest, but for its key: what it has said may be said again by others. */
 static void forget(faz_lobby *self, guest *one) {
     if (one->stage == GUEST_SEATED || one->stage == GUEST_ASKS)
         lobby_tell(self, FAZ_LOBBY_LEFT, FAZGROND_NO_MACHINE, one->name)->who = one->who;
-    host_note_gone(self, one->pair.theirs);
+    seen_note(&self->hosting.gone, one->pair.theirs);
     sodium_memzero(one, sizeof *one);
 }
 
@@ -180,8 +169,8 @@ static void hear_hello(faz_lobby *self, const broker_message *message) {
 /* By which room's key somebody asks, and whose key it names; null if by none. */
 static const room *room_of_ask(const faz_lobby *self, uint8_t open[KEY], const broker_message *message) {
     const hosting *hosts = &self->hosting;
-    if (!hosts->has_short_code)
-        return ask_open(open, &self->room, message->bytes, message->length) ? &self->room : NULL;
+    if (!hosts->has_short_code && ask_open(open, &self->room, message->bytes, message->length))
+        return &self->room;
     for (int at = 0; at < GUESTS; at++)
         if (hosts->guest[at].stage != GUEST_NONE && ask_open(open, &hosts->guest[at].room, message->bytes, message->length))
             return &hosts->guest[at].room;
@@ -255,7 +244,7 @@ static void hear_ask(faz_lobby *self, const broker_message *message, const uint8
     uint8_t open[KEY];
     ask came;
     const room *in = room_of_ask(self, open, message);
-    guest *one = in != NULL && !host_is_gone(self, open) ? guest_of(self, open) : NULL;
+    guest *one = in != NULL && !seen_has(&self->hosting.gone, open) ? guest_of(self, open) : NULL;
     if (one == NULL || !read_ask(self, one, in, open, message, &came))
         return;
     bool is_new = one->stage == GUEST_NONE;

@@ -62,11 +62,11 @@ typedef struct hosting {
     bool asks, stays_open, has_short_code, has_worked; /* in this turn */
     char plate[PLATE_TEXT], secret_signs[SHORT_SECRET];
     knocker knocker[KNOCKERS];
-    uint32_t wrong; /* tries at this code */
+    uint32_t wrong, wrong_all; /* tries at this code, and in all */
+    faz_lobby_why why;         /* the next code is another one */
     uint32_t named; /* the last number of a guest, or of who comes */
     guest guest[GUESTS];
-    uint8_t gone[GUESTS][KEY]; /* keys of those who were there, of whom old messages may come again */
-    uint32_t gones;
+    seen_keys gone; /* of those who have left, or have their places: what they said may be said again by others */
 } hosting;
 
 /* ---- Of who joins. */
@@ -80,12 +80,15 @@ typedef struct joining {
     char plate[PLATE_TEXT], secret_signs[SHORT_SECRET];
     pake *pake;
     knock knock; /* the last one that it said */
+    uint32_t knocks;
+    bool has_key; /* by a proof that is done; what the host says behind that isn't read yet */
     pair host;
     char host_name[BROKER_SUBJECT]; /* where that is asked */
     bool is_seated, is_asked; /* it has a seat; the host's player is asked */
     uint32_t counter, answers;
     bool has_said;
-    uint32_t said_at, heard_at;
+    bool is_unheard, is_wrong; /* its code, as somebody says who may be anybody */
+    uint32_t said_at, heard_at, wrong_at;
 } joining;
 
 /* ---- Who comes into a match that runs, at the machine that answers. */
@@ -172,6 +175,7 @@ struct faz_lobby {
     hosting hosting;
     joining joining;
     table table;
+    seen_keys members; /* of all who are or were in the match. It never forgets one: once it is full nobody else comes in */
     other other[FAZGROND_MACHINES];
     faz_line *ahead; /* of who joins, to the host, before the table is there; null: there is none */
     bool was_ahead;
@@ -193,6 +197,10 @@ void lobby_copy(char *out, size_t room, const char *text);
 faz_lobby_event *lobby_tell(faz_lobby *self, faz_lobby_what what, uint32_t machine, const char *name);
 /* It is over. */
 void lobby_end(faz_lobby *self, faz_lobby_why why, const char *text);
+/* A host is found by a code that is a hash of its key. */
+void lobby_open_by_hash(faz_lobby *self);
+/* That code is told, and why there is another one. */
+void lobby_tell_code(faz_lobby *self, faz_lobby_why why);
 
 /* ---- servers.c */
 
@@ -225,9 +233,6 @@ void knock_close(faz_lobby *self);
 
 /* ---- hosting.c */
 
-/* Keys of who has left, or has its place: what they said may be said again by others. */
-void host_note_gone(faz_lobby *self, const uint8_t open[KEY]);
-bool host_is_gone(const faz_lobby *self, const uint8_t open[KEY]);
 /* What the host says about itself, sealed for those who have a room's key. */
 size_t host_offer(const faz_lobby *self, const room *in, uint8_t out[BROKER_MESSAGE]);
 
@@ -257,7 +262,10 @@ bool late_let_in(faz_lobby *self, uint32_t who, bool yes);
 bool mesh_has_line(const faz_lobby *self, uint32_t machine);
 /* Whether nobody has this place yet. */
 bool mesh_is_vacant(const faz_lobby *self, uint32_t machine);
-/* There is somebody else in a place: the line to it is another one. */
+/* Whether a key is or was anybody's of this match. No other line is opened by it: both would have the same keys, and count from the same
+ * number. */
+bool mesh_knows(const faz_lobby *self, const uint8_t open[KEY]);
+/* There is somebody else in a place, whose key nobody had: the line to it is another one. */
 void mesh_replace(faz_lobby *self, uint32_t place, const member *who);
 
 /* Who joins opens a line to the host while that is asked, once, as soon as all servers have addresses. */

@@ -2,10 +2,15 @@
 #include "inside.h"
 
 #include <sodium.h>
+#include <stdio.h>
 #include <string.h>
 
-/* Milliseconds: between two messages, and once there is a seat; without an answer, before there was one and after that. */
-enum { SAID_AGAIN = 500, SEATED_AGAIN = 2000, NEVER_ANSWERED = 10000, GONE_AFTER = 10000 };
+/* Milliseconds: between two messages, and once there is a seat; without an answer, before there was one and after that; and until it is
+ * believed that a code is wrong. */
+enum { SAID_AGAIN = 500, SEATED_AGAIN = 2000, NEVER_ANSWERED = 10000, GONE_AFTER = 10000, BELIEVED = 3000 };
+
+/* So often it knocks: who hears that can spoil a proof, and of one that isn't finished the host thinks that the code was wrong. */
+enum { MOST_KNOCKS = 3 };
 
 static void say(faz_lobby *self, const char *subject, const uint8_t *message, size_t length) {
     if (broker_say(self->broker, subject, self->inbox_name, message, length)) {
@@ -49,11 +54,33 @@ static const char *const REASONS[] = {
     [FAZ_LOBBY_TOO_MANY] = "the door was asked too often from this address: try later",
     [FAZ_LOBBY_A_PAGE] = "the host plays in a browser, and this game doesn't: web/bridge joins it for this one",
 };
+static const char UNANSWERED[] =
+    "nobody who hosts a match with this code answers: the host is gone, or its game has an older version of this library";
 
-/* Nobody hears the host's subject. It may be away for a moment, if it was there before. */
+/* What isn't sealed may be anybody's word: it ends nothing before its time, and the player is told of it once. */
+static void tell_doubt(faz_lobby *self, faz_lobby_why why, const char *what, int waits) {
+    faz_lobby_event *event = lobby_tell(self, FAZ_LOBBY_UNANSWERED, FAZGROND_NO_MACHINE, "");
+    event->why = why;
+    snprintf(event->text, sizeof event->text, "%s: waiting for %d seconds at most", what, waits / 1000);
+}
+
+/* Nobody hears the host's subject, as it seems. */
 static void hear_nobody(faz_lobby *self) {
-    if (self->joining.stage == SAYS_HELLO || self->joining.stage == KNOCKS)
-        lobby_end(self, FAZ_LOBBY_NO_SUCH_CODE, REASONS[FAZ_LOBBY_NO_SUCH_CODE]);
+    joining *joins = &self->joining;
+    if (joins->is_unheard || (joins->stage != SAYS_HELLO && joins->stage != KNOCKS))
+        return;
+    joins->is_unheard = true;
+    tell_doubt(self, FAZ_LOBBY_NO_SUCH_CODE, "nobody answers so far", NEVER_ANSWERED);
+}
+
+/* The code is wrong, as it seems. */
+static void doubt_code(faz_lobby *self) {
+    joining *joins = &self->joining;
+    if (joins->is_wrong)
+        return;
+    joins->is_wrong = true;
+    joins->wrong_at = self->now;
+    tell_doubt(self, FAZ_LOBBY_WRONG_CODE, "the code's last four signs may be wrong", BELIEVED);
 }
 
 /* With a short code the key by which the offer is sealed says that it is the host's. */
@@ -67,7 +94,7 @@ static bool is_of_host(const faz_lobby *self, const offer *came) {
 static void hear_offer(faz_lobby *self, const uint8_t *bytes, size_t length) {
     joining *joins = &self->joining;
     offer came;
-    if (joins->stage != SAYS_HELLO || !offer_read(&came, &self->room, bytes, length))
+    if ((joins->stage != SAYS_HELLO && !joins->has_key) || !offer_read(&came, &self->room, bytes, length))
         return;
     if (came.version != LOBBY_VERSION) {
         lobby_end(self, FAZ_LOBBY_OTHER_LIBRARY, REASONS[FAZ_LOBBY_OTHER_LIBRARY]);
@@ -76,6 +103,7 @@ static void hear_offer(faz_lobby *self, const uint8_t *bytes, size_t length) {
     if (!is_of_host(self, &came) || !pair_of(&joins->host, &self->room, self->keys.open, self->keys.secret, came.speaks))
         return;
     inbox_subject(came.inbox, joins->host_name);
+    joins->has_key = false;
     joins->stage = ASKS_TO_JOIN;
     joins->heard_at = self->now;
     say_ask(self, false);
@@ -89,9 +117,9 @@ static bool begin_to_knock(faz_lobby *self) {
     if (joins->pake == NULL)
         return false;
     joins->stage = KNOCKS;
+    joins->knocks++;
     joins->knock.step = 1;
     randombytes_buf(joins->knock.id, KNOCK_ID);
-    joins->heard_at = self->now;
     return pake_turn(joins->pake, NULL, 0, joins->knock.bytes, &joins->knock.length) == PAKE_MORE;
 }
 
@@ -105,6 +133,7 @@ void join_door(faz_lobby *self, const door_answer *answer) {
     } else {
         room_named(&self->room, answer->token);
         room_subject(&self->room, self->room_name);
+        self->joining.heard_at = self->now;
         if (!begin_to_knock(self))
             lobby_end(self, FAZ_LOBBY_SYSTEM, "there is no memory");
         else
@@ -112,16 +141,37 @@ void join_door(faz_lobby *self, const door_answer *answer) {
     }
 }
 
-/* What the host said last is behind the key by which it is sealed. */
-static void take_key(faz_lobby *self, const uint8_t *bytes, size_t length) {
-    joining *joins = &self->joining;
-    pake_key(joins->pake, self->room.key);
+static void drop_pake(joining *joins) {
     pake_close(joins->pake);
     joins->pake = NULL;
-    joins->stage = SAYS_HELLO;
-    hear_offer(self, bytes, length);
-    if (joins->stage == SAYS_HELLO)
-        lobby_end(self, FAZ_LOBBY_WRONG_CODE, REASONS[FAZ_LOBBY_WRONG_CODE]);
+}
+
+/* A proof that was spoilt doesn't go on: it knocks anew. */
+static void knock_anew(faz_lobby *self) {
+    drop_pake(&self->joining);
+    if (self->joining.knocks < MOST_KNOCKS && begin_to_knock(self))
+        say_knock(self);
+}
+
+static void go_on_knocking(faz_lobby *self, const knock *came) {
+    joining *joins = &self->joining;
+    pake_answer now = pake_turn(joins->pake, came->bytes, came->length, joins->knock.bytes, &joins->knock.length);
+    switch (now == PAKE_MORE && joins->knock.length == 0 ? PAKE_WRONG : now) {
+    case PAKE_WRONG:
+        doubt_code(self);
+        knock_anew(self);
+        break;
+    case PAKE_MORE:
+        joins->heard_at = joins->wrong_at = self->now;
+        joins->knock.step++;
+        say_knock(self);
+        break;
+    case PAKE_DONE:
+        pake_key(joins->pake, self->room.key);
+        drop_pake(joins);
+        joins->has_key = true;
+        break;
+    }
 }
 
 static void hear_knocked(faz_lobby *self, const broker_message *message) {
@@ -131,17 +181,16 @@ static void hear_knocked(faz_lobby *self, const broker_message *message) {
     if (joins->stage != KNOCKS || !knock_read(&came, KNOCKED, message->bytes, message->length, &more)
         || memcmp(came.id, joins->knock.id, KNOCK_ID) != 0 || came.step != joins->knock.step)
         return;
-    pake_answer now = came.is_wrong ? PAKE_WRONG
-                                    : pake_turn(joins->pake, came.bytes, came.length, joins->knock.bytes, &joins->knock.length);
-    joins->heard_at = self->now;
-    if (now == PAKE_WRONG) {
-        lobby_end(self, FAZ_LOBBY_WRONG_CODE, REASONS[FAZ_LOBBY_WRONG_CODE]);
-    } else if (now == PAKE_DONE) {
-        take_key(self, message->bytes + message->length - more, more);
-    } else {
-        joins->knock.step++;
-        say_knock(self);
-    }
+    if (came.is_wrong)
+        doubt_code(self);
+    else if (joins->pake != NULL)
+        go_on_knocking(self, &came);
+    if (!joins->has_key)
+        return;
+    /* What the host said last is behind the proof, sealed by the key that this makes. */
+    hear_offer(self, message->bytes + message->length - more, more);
+    if (joins->has_key && !self->is_over)
+        doubt_code(self);
 }
 
 /* ---- what the host answers */
@@ -208,22 +257,25 @@ static bool is_due(const faz_lobby *self) {
 /* Time counts while the broker is there. */
 static void give_up(faz_lobby *self) {
     joining *joins = &self->joining;
+    bool is_unanswered = joins->stage < ASKS_TO_JOIN;
     if (!broker_is_there(self->broker) || !joins->has_said)
-        joins->heard_at = self->now;
-    if (joins->stage < ASKS_TO_JOIN && lobby_since(self, joins->heard_at) >= NEVER_ANSWERED)
-        lobby_end(self, FAZ_LOBBY_NO_SUCH_CODE,
-                  "nobody who hosts a match with this code answers: the host is gone, or its game has an older version of this library");
+        joins->heard_at = joins->wrong_at = self->now;
+    if (is_unanswered && joins->is_wrong && lobby_since(self, joins->wrong_at) >= BELIEVED)
+        lobby_end(self, FAZ_LOBBY_WRONG_CODE, REASONS[FAZ_LOBBY_WRONG_CODE]);
+    else if (is_unanswered && lobby_since(self, joins->heard_at) >= NEVER_ANSWERED)
+        lobby_end(self, FAZ_LOBBY_NO_SUCH_CODE, joins->is_unheard ? REASONS[FAZ_LOBBY_NO_SUCH_CODE] : UNANSWERED);
     else if (lobby_since(self, joins->heard_at) >= GONE_AFTER)
         lobby_end(self, FAZ_LOBBY_HOST_LEFT, REASONS[FAZ_LOBBY_HOST_LEFT]);
 }
 
 void join_turn(faz_lobby *self) {
+    const joining *joins = &self->joining;
     bool is_to_say = broker_is_there(self->broker) && is_due(self);
-    switch (self->joining.stage) {
+    switch (joins->stage) {
     case NO_CODE:
     case ASKS_DOOR:
     case HAS_TABLE: return;
-    case KNOCKS: if (is_to_say) say_knock(self); break;
+    case KNOCKS: if (is_to_say && (joins->pake != NULL || joins->has_key)) say_knock(self); break;
     case SAYS_HELLO: if (is_to_say) say_hello(self); break;
     case ASKS_TO_JOIN:
         if (is_to_say)

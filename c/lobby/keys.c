@@ -172,6 +172,20 @@ void pair_words(const pair *self, char out[WORDS]) {
     *out = 0;
 }
 
+/* ---- keys that were here */
+
+void seen_note(seen_keys *self, const uint8_t open[KEY]) {
+    memcpy(self->key[self->count++ % SEEN], open, KEY);
+}
+
+bool seen_has(const seen_keys *self, const uint8_t open[KEY]) {
+    uint32_t kept = self->count < SEEN ? self->count : SEEN;
+    for (uint32_t at = 0; at < kept; at++)
+        if (memcmp(self->key[at], open, KEY) == 0)
+            return true;
+    return false;
+}
+
 /* ---- messages: a nonce, the bytes, and 16 that nobody makes without the key. `more` is sealed with them. */
 
 static void seal(uint8_t *out, const uint8_t key[KEY], const uint8_t *bytes, size_t length, const uint8_t *more, size_t count) {

@@ -68,6 +68,18 @@ bool pair_of(pair *self, const room *in, const uint8_t ours[KEY], const uint8_t 
 /* Signs that both see alike, and who stands between the two can't make alike: "Q7KM-2XPA". */
 void pair_words(const pair *self, char out[WORDS]);
 
+/* ---- Keys that were here, so that nobody comes by one of them again. A full list forgets the oldest one. */
+
+enum { SEEN = 4096 };
+
+typedef struct seen_keys {
+    uint8_t key[SEEN][KEY];
+    uint32_t count; /* of all that were noted */
+} seen_keys;
+
+void seen_note(seen_keys *self, const uint8_t open[KEY]);
+bool seen_has(const seen_keys *self, const uint8_t open[KEY]);
+
 /* ---- Messages, sealed for all who have the code, or for the other one of a pair. `kind` is sealed with them. What is made is
  * SEAL bytes longer, and what is opened as much shorter. */
 

@@ -7,22 +7,27 @@
 /* Milliseconds in which who knocks has to show that it knows the code, and then to ask. */
 enum { SHOWN_WITHIN = 5000, ASKED_WITHIN = 10000 };
 
-/* So many wrong tries a code bears: one of 200,000 guesses it. */
-enum { WRONG_TRIES = 5 };
+/* So many wrong tries a code bears, and a lobby in all: one of 50,000 guesses one of its codes. */
+enum { WRONG_TRIES = 5, WRONG_IN_ALL = 20 };
 
 static void drop(knocker *one) {
     pake_close(one->pake);
     sodium_memzero(one, sizeof *one);
 }
 
-/* Another name under which this host is heard, and another secret; the door is asked for a plate. */
-void knock_begin(faz_lobby *self) {
-    hosting *hosts = &self->hosting;
+/* What was said by a code doesn't count any more. */
+static void forget_code(hosting *hosts) {
     for (int at = 0; at < KNOCKERS; at++)
         if (!hosts->knocker[at].is_proven)
             drop(&hosts->knocker[at]);
     hosts->wrong = 0;
     hosts->plate[0] = 0;
+}
+
+/* Another name under which this host is heard, and another secret; the door is asked for a plate. */
+void knock_begin(faz_lobby *self) {
+    hosting *hosts = &self->hosting;
+    forget_code(hosts);
     short_draw(hosts->secret_signs);
     self->door.request.plate[0] = 0;
     randombytes_buf(self->door.request.token, DOOR_TOKEN);
@@ -38,20 +43,36 @@ void knock_plate(faz_lobby *self, const char plate[PLATE_TEXT]) {
         return;
     lobby_copy(hosts->plate, sizeof hosts->plate, plate);
     lobby_copy(self->door.request.plate, sizeof self->door.request.plate, plate);
-    short_write(hosts->plate, hosts->secret_signs, lobby_tell(self, FAZ_LOBBY_CODE, 0, self->name)->text);
+    faz_lobby_event *event = lobby_tell(self, FAZ_LOBBY_CODE, 0, self->name);
+    short_write(hosts->plate, hosts->secret_signs, event->text);
+    event->why = hosts->why;
+    hosts->why = FAZ_LOBBY_NO_REASON;
 }
 
-/* In a match that runs there is no short code any more after the last try: the long one stays. */
-static void note_wrong(faz_lobby *self) {
-    self->hosting.wrong++;
-    if (self->hosting.wrong < WRONG_TRIES)
-        return;
+/* From now on friends come by the long code alone, which nobody guesses. That of a match that lasts is there already. */
+static void end_short_code(faz_lobby *self) {
+    forget_code(&self->hosting);
+    self->door.request.kind = DOOR_RELAYS;
     if (!self->is_known) {
-        knock_begin(self);
-    } else {
-        self->hosting.plate[0] = 0;
-        self->door.request.kind = DOOR_RELAYS;
+        self->hosting.has_short_code = false;
+        lobby_open_by_hash(self);
     }
+    if (!self->is_known || self->table.lasts)
+        lobby_tell_code(self, FAZ_LOBBY_WRONG_CODE);
+}
+
+/* In a match that runs no other short code is drawn. */
+static void note_wrong(faz_lobby *self) {
+    hosting *hosts = &self->hosting;
+    hosts->wrong++;
+    hosts->wrong_all++;
+    if (hosts->wrong < WRONG_TRIES)
+        return;
+    hosts->why = FAZ_LOBBY_WRONG_CODE;
+    if (self->is_known || hosts->wrong_all >= WRONG_IN_ALL)
+        end_short_code(self);
+    else
+        knock_begin(self);
 }
 
 /* The one with this id; or a free place for one that begins; or null. */

@@ -72,7 +72,7 @@ static bool answers(const faz_lobby *self) {
 
 /* Whoever has come, or has left, is known by its key no more. */
 static void forget(faz_lobby *self, comer *one) {
-    host_note_gone(self, one->pair.theirs);
+    seen_note(&self->hosting.gone, one->pair.theirs);
     sodium_memzero(one, sizeof *one);
 }
 
@@ -175,11 +175,11 @@ static void take_in(faz_lobby *self, comer *one, const ask *came, const room *in
 static void hear_ask(faz_lobby *self, const broker_message *message, const uint8_t inbox[INBOX], const room *in,
                      const uint8_t open[KEY]) {
     ask came;
-    comer *one = host_is_gone(self, open) ? NULL : comer_of(self, open);
+    comer *one = seen_has(&self->hosting.gone, open) ? NULL : comer_of(self, open);
     if (one == NULL)
         return;
     bool is_new = !one->is_there;
-    if (is_new && !pair_of(&one->pair, in, self->keys.open, self->keys.secret, open))
+    if (is_new && (mesh_knows(self, open) || !pair_of(&one->pair, in, self->keys.open, self->keys.secret, open)))
         return;
     if (!ask_read(&came, in, &one->pair, message->bytes, message->length) || (!is_new && came.counter <= one->counter))
         return;

@@ -115,18 +115,20 @@ static const char *take_match(faz_lobby *self, const faz_lobby_settings *setting
     return NULL;
 }
 
-/* A code that is a hash of the host's key: it is told once friends can be heard. */
-static void open_by_hash(faz_lobby *self) {
+/* It is told once friends can be heard. */
+void lobby_open_by_hash(faz_lobby *self) {
     uint8_t code[CODE_BYTES];
     code_of(code, self->hosting.open);
     enter(self, code);
     broker_hear(self->broker, 1, self->room_name);
 }
 
-static void tell_code(faz_lobby *self) {
+void lobby_tell_code(faz_lobby *self, faz_lobby_why why) {
     uint8_t code[CODE_BYTES];
+    faz_lobby_event *event = lobby_tell(self, FAZ_LOBBY_CODE, 0, self->name);
     code_of(code, self->hosting.open);
-    code_write(code, lobby_tell(self, FAZ_LOBBY_CODE, 0, self->name)->text);
+    code_write(code, event->text);
+    event->why = why;
 }
 
 faz_lobby *faz_lobby_host(const faz_lobby_settings *settings, const char **why) {
@@ -145,7 +147,7 @@ faz_lobby *faz_lobby_host(const faz_lobby_settings *settings, const char **why) 
     if (settings->short_code)
         knock_begin(self);
     else
-        open_by_hash(self);
+        lobby_open_by_hash(self);
     return self;
 }
 
@@ -234,7 +236,7 @@ static void look_at_broker(faz_lobby *self) {
     if (is_there)
         self->is_away_told = false;
     if (is_there && !self->has_been_there && self->is_host && !self->hosting.has_short_code)
-        tell_code(self);
+        lobby_tell_code(self, FAZ_LOBBY_NO_REASON);
     self->has_been_there = self->has_been_there || is_there;
 }
 

@@ -67,7 +67,8 @@ typedef enum faz_lobby_stage {
 
 typedef enum faz_lobby_what {
     FAZ_LOBBY_CODE,    /* the host's code, in `text`: friends join by it. It is told once the broker is there. A short one is another
-                        * one after five wrong tries */
+                        * one after five wrong tries, and a long one after 20 in all, or five in a match: `why` is
+                        * FAZ_LOBBY_WRONG_CODE then */
     FAZ_LOBBY_AWAY,    /* the broker or the door isn't there, and is tried again and again, or a server's name isn't known: `text`
                         * says which */
     FAZ_LOBBY_ASKS,    /* `name` wants to join, and `who` is for faz_lobby_let_in. At who joins: the player of `name`, who hosts, is
@@ -81,7 +82,9 @@ typedef enum faz_lobby_what {
     FAZ_LOBBY_ENDED,   /* it won't come to a match: `why`, and in words `text` */
     FAZ_LOBBY_COMES,   /* in a match that `lasts`: a machine that was silent, or nobody's, is `name`'s from now on, who has come back or
                         * is new. The line to it is another one, with another number */
-    FAZ_LOBBY_REFUSED  /* at the host: `name` can't join, for `why`: FAZ_LOBBY_A_PAGE. The player is told, since friends may wonder */
+    FAZ_LOBBY_REFUSED, /* at the host: `name` can't join, for `why`: FAZ_LOBBY_A_PAGE. The player is told, since friends may wonder */
+    FAZ_LOBBY_UNANSWERED /* at who joins: nobody hosts by this code, or its last four signs are wrong (`why`), as somebody says who may be
+                          * anybody. It is waited for the host: `text` says for how long, and FAZ_LOBBY_ENDED comes then */
 } faz_lobby_what;
 
 typedef enum faz_lobby_why {
@@ -93,7 +96,8 @@ typedef enum faz_lobby_why {
     FAZ_LOBBY_HOST_LEFT,     /* the host closed its lobby, or is gone */
     FAZ_LOBBY_OTHER_LIBRARY, /* the host speaks another version of what is said in a lobby */
     FAZ_LOBBY_SYSTEM,        /* no memory, or no socket */
-    FAZ_LOBBY_WRONG_CODE,    /* the last four signs of a short code are wrong, or who answers doesn't know them */
+    FAZ_LOBBY_WRONG_CODE,    /* the last four signs of a short code are wrong, or who answers doesn't know them. With a host's code: somebody
+                              * has tried wrong ones */
     FAZ_LOBBY_TOO_MANY,      /* the door was asked too often from this address: later */
     FAZ_LOBBY_A_PAGE         /* the host's game is a page in a browser, and this one isn't: they have no line with each other */
 } faz_lobby_why;

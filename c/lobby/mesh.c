@@ -30,6 +30,10 @@ bool mesh_is_vacant(const faz_lobby *self, uint32_t machine) {
     return is_other(self, machine) && self->table.member[machine].is_vacant;
 }
 
+bool mesh_knows(const faz_lobby *self, const uint8_t open[KEY]) {
+    return self->members.count >= SEEN || seen_has(&self->members, open);
+}
+
 /* ---- opening */
 
 /* Each line has this machine's keys. No other line that has told a signal has them with the same machine at its other end. */
@@ -91,6 +95,9 @@ void mesh_open(faz_lobby *self) {
     self->known_at = self->now;
     memcpy(self->mesh.key, self->table.key, KEY);
     self->heard = self->table.me;
+    for (uint32_t machine = 0; machine < self->table.machines; machine++)
+        if (!self->table.member[machine].is_vacant)
+            seen_note(&self->members, self->table.member[machine].open);
     lobby_tell(self, FAZ_LOBBY_FULL, self->table.me, "");
     late_begin(self);
 }
@@ -132,6 +139,7 @@ void mesh_replace(faz_lobby *self, uint32_t place, const member *who) {
     aside_leave(close_aside(to->line));
     memset(to, 0, sizeof *to);
     self->table.member[place] = *who;
+    seen_note(&self->members, who->open);
     lobby_tell(self, FAZ_LOBBY_COMES, place, who->name);
     if (self->has_lines)
         open_line(self, place);
@@ -180,7 +188,7 @@ static bool is_silent(const faz_lobby *self, uint32_t place) {
 static void hear_news(faz_lobby *self, uint32_t from, const broker_message *message) {
     news came;
     if (!self->table.lasts || !news_read(&came, &self->other[from].pair, message->bytes, message->length)
-        || came.counter <= self->other[from].news || came.place == from || !is_silent(self, came.place))
+        || came.counter <= self->other[from].news || came.place == from || !is_silent(self, came.place) || mesh_knows(self, came.who.open))
         return;
     self->other[from].news = came.counter;
     mesh_replace(self, came.place, &came.who);
@@ -207,7 +215,7 @@ static void tell_signals(faz_lobby *self, other *to) {
 
 /* ---- a turn */
 
-static const char *const WAYS[] = {"no way", "a LAN", "the internet, directly", "a relay"};
+static const char *const WAYS[] = {"no way", "by LAN", "directly over the internet", "by a relay"};
 
 /* A line that is heard before this machine has a way to send isn't up yet. */
 static void note_stage(faz_lobby *self, uint32_t machine) {

@@ -222,6 +222,15 @@ static bool has_owners(const table *self) {
     return is_good;
 }
 
+/* Whether no two machines have one key: their lines would be sealed alike. */
+static bool has_own_keys(const table *self) {
+    for (uint32_t at = 1; at < self->machines; at++)
+        for (uint32_t before = 0; before < at && !self->member[at].is_vacant; before++)
+            if (memcmp(self->member[at].open, self->member[before].open, KEY) == 0)
+                return false;
+    return true;
+}
+
 static void get_table(cursor *from, table *self) {
     memset(self, 0, sizeof *self);
     self->me = (uint32_t)cursor_get_number(from, 1);
@@ -243,6 +252,7 @@ static void get_table(cursor *from, table *self) {
         get_member(from, &self->member[at]);
         from->is_good = from->is_good && (self->lasts || !self->member[at].is_vacant);
     }
+    from->is_good = from->is_good && has_own_keys(self);
     self->common_length = cursor_get_number(from, 2);
     from->is_good = from->is_good && self->common_length <= FAZ_LOBBY_COMMON;
     cursor_get(from, self->common, from->is_good ? self->common_length : 0);

@@ -76,24 +76,3 @@ const char *faz_lobby_words_read(lobby_words *words, faz_lobby_settings *setting
         return "--tcp-relay has no USER:PASSWORD@ADDRESS:PORT";
     return NULL;
 }
-
-void faz_lobby_words_of(const faz_lobby_event *event, char *out, size_t room) {
-    const char *name = event->name, *text = event->text;
-    *out = 0;
-    switch (event->what) {
-    case FAZ_LOBBY_CODE: snprintf(out, room, "the code is %s", text); break;
-    case FAZ_LOBBY_AWAY: snprintf(out, room, "waiting: %s", text); break;
-    case FAZ_LOBBY_ASKS:
-        snprintf(out, room, event->who != 0 ? "%s wants to join, and sees %s" : "%s is asked; both see %s", name, text);
-        break;
-    case FAZ_LOBBY_JOINED: snprintf(out, room, *text != 0 ? "with %s: both see %s" : "with %s", name, text); break;
-    case FAZ_LOBBY_LEFT: snprintf(out, room, "%s has left", name); break;
-    case FAZ_LOBBY_FULL: snprintf(out, room, "all are there"); break;
-    case FAZ_LOBBY_UP: snprintf(out, room, "the line to machine %u is up: %s", (unsigned)event->machine, text); break;
-    case FAZ_LOBBY_SILENT: snprintf(out, room, "machine %u is silent: another way is looked for", (unsigned)event->machine); break;
-    case FAZ_LOBBY_BLOCKED: snprintf(out, room, "no way to machine %u was found so far", (unsigned)event->machine); break;
-    case FAZ_LOBBY_COMES: snprintf(out, room, "%s comes as machine %u", name, (unsigned)event->machine); break;
-    case FAZ_LOBBY_REFUSED: snprintf(out, room, "%s can't join: that is a page in a browser, and this game isn't", name); break;
-    case FAZ_LOBBY_ENDED: snprintf(out, room, "%s", text); break;
-    }
-}

@@ -7,6 +7,9 @@
 
 enum { LOBBY_WORDS_ROOM = 320, LOBBY_WORDS_PORT = 3478 /* of a STUN or TURN server, if none is named */ };
 
+/* What is said to who is asked. */
+#define LOBBY_WORDS_ANSWERS "y lets in, n doesn't"
+
 /* What was said; null or false if nothing was. `broker` has to be. */
 typedef struct lobby_words {
     const char *broker;    /* --broker URL */
@@ -22,6 +25,7 @@ typedef struct lobby_words {
     long begin_with;       /* --begin-with N: the host's match begins once N machines are there, and the other seats stay open; 0: once all
                             * are */
     long friends;          /* so many are in the lobby */
+    uint32_t left;         /* a bit for each machine that has left the match, as the program sets them */
     char texts[3][LOBBY_WORDS_ROOM]; /* what settings point at */
 } lobby_words;
 
@@ -39,6 +43,9 @@ bool faz_lobby_words_enter(faz_lobby *lobby);
  * nobody. */
 uint32_t faz_lobby_words_let_in(faz_lobby *lobby, uint32_t who);
 
-/* An event in words; an empty text if a player needs none. */
-void faz_lobby_words_of(const faz_lobby_event *event, char *out, size_t room);
+/* Whether an event is of the line to a machine that has left, so that nobody has to be told. Whoever comes in its place is told of again. */
+bool faz_lobby_words_of_left(lobby_words *words, const faz_lobby_event *event);
+
+/* An event of a lobby in words; an empty text if a player needs none. */
+void faz_lobby_words_of(const faz_lobby *lobby, const faz_lobby_event *event, char *out, size_t room);
 #endif

@@ -3,8 +3,8 @@
 #include "../../duel/options.h"
 #include "../door.h"
 #include "../words.h"
+#include "budget.h"
 
-#include <arpa/inet.h>
 #include <glib.h>
 #include <nats/nats.h>
 #include <sodium.h>
@@ -20,18 +20,19 @@ static const char usage[] =
     "  --stun ADDRESS[:PORT]      --relay ADDRESS[:PORT]  --second ADDRESS[:PORT]    servers as those who ask are told\n"
     "  --secret FILE        that of the relays, with a line static-auth-secret=..\n"
     "  --hours N            a relay's password is good for (8)\n"
-    "  --tries N            that an address has in a minute (20)\n";
+    "  --tries N            that an address has in a minute (20), and a wider network 16 or 256 times as many\n";
 
 enum {
     SIGNS = 32,
     PLATES = SIGNS * SIGNS * SIGNS,
     DRAWN = 64,
-    ADDRESSES = 4096,
+    PARTS = 4, /* of a wide network: each has a user of the relays */
     MINUTE = 60,
     TEXT = 4096,
     HOST = 64,
-    NAME = 24,
-    WAIT = 1000
+    ID = 8,
+    WAIT = 1000,
+    WAITING = 4096 /* asks at most: what comes then is lost, and asked again */
 };
 
 static const char signs[SIGNS + 1] = "0123456789ABCDEFGHJKMNPQRSTVWXYZ";
@@ -41,13 +42,6 @@ typedef struct plate {
     int64_t until; /* seconds of the clock; before that it is taken */
 } plate;
 
-/* How often an address may still ask, and at what time that was so. */
-typedef struct address {
-    uint64_t hash;
-    double left;
-    int64_t at;
-} address;
-
 static struct {
     const char *broker, *creds, *trusted, *stun, *relay, *second, *secret_file;
     long hours, tries;
@@ -55,25 +49,25 @@ static struct {
     lobby_words words[2];
     faz_lobby_settings servers[2]; /* as words.h reads them */
     plate plate[PLATES];
-    address address[ADDRESSES];
-    uint8_t hash_key[crypto_shorthash_KEYBYTES];
+    uint8_t id_key[crypto_generichash_KEYBYTES]; /* of the relays' users */
+    uint32_t refused;                            /* asks, since that was said */
+    int64_t said_at;
     bool has_warned;
 } self = {.broker = "nats://127.0.0.1:4222", .hours = 8, .tries = 20};
 
-static int64_t now(void) {
+static budget budget_of_asks, budget_of_refusals;
+
+static int64_t now_nanos(void) {
     struct timespec time;
     clock_gettime(CLOCK_MONOTONIC, &time);
-    return time.tv_sec;
+    return (int64_t)time.tv_sec * 1000000000 + time.tv_nsec;
+}
+
+static int64_t now(void) {
+    return now_nanos() / 1000000000;
 }
 
 /* ---- who asks */
-
-/* Of an IPv6 address the first half counts, which is one network. */
-static void first_half(char host[HOST]) {
-    uint8_t bytes[sizeof(struct in6_addr)];
-    if (inet_pton(AF_INET6, host, bytes) == 1)
-        sodium_bin2hex(host, HOST, bytes, sizeof bytes / 2);
-}
 
 /* The address from which somebody asks, as the broker tells it. */
 static void read_host(natsMsg *message, char out[HOST]) {
@@ -86,29 +80,18 @@ static void read_host(natsMsg *message, char out[HOST]) {
         return;
     }
     at += strlen("\"host\":\"");
-    size_t length = strcspn(at, "\"");
+    size_t length = strcspn(at, "%\""); /* (behind a % is a device of the broker's) */
     snprintf(out, HOST, "%.*s", (int)(length < HOST ? length : HOST - 1), at);
-    first_half(out);
 }
 
-/* Whether who asks may: each time it is one less, and they come back by and by. Addresses that share a place share what is left. */
-static bool may_ask(const char *host) {
-    uint8_t bytes[sizeof(uint64_t)];
-    uint64_t hash;
-    crypto_shorthash(bytes, (const uint8_t *)host, strlen(host), self.hash_key);
-    memcpy(&hash, bytes, sizeof hash);
-    address *of = &self.address[hash % ADDRESSES];
-    double back = (double)(now() - of->at) * (double)self.tries / MINUTE;
-    if (of->at == 0 || (of->hash != hash && of->left + back >= (double)self.tries))
-        *of = (address){.left = (double)self.tries};
-    else
-        of->left = of->left + back < (double)self.tries ? of->left + back : (double)self.tries;
-    of->hash = hash;
-    of->at = now();
-    if (of->left < 1)
-        return false;
-    of->left -= 1;
-    return true;
+/* Of those who ask too often it is said once in a minute how many they were. */
+static void say_refused(void) {
+    if (self.refused == 0 || now() - self.said_at < MINUTE)
+        return;
+    printf("refused, as too many: %u\n", (unsigned)self.refused);
+    fflush(stdout);
+    self.refused = 0;
+    self.said_at = now();
 }
 
 /* ---- plates */
@@ -176,14 +159,28 @@ static door_status join(const door_request *asked, door_answer *answer) {
 
 /* ---- relays */
 
+static void hash_of(const network *of, uint8_t part, uint8_t out[crypto_generichash_BYTES_MIN]) {
+    uint64_t text[] = {(uint64_t)of->kind, of->prefix, part};
+    crypto_generichash(out, crypto_generichash_BYTES_MIN, (const uint8_t *)text, sizeof text, self.id_key, sizeof self.id_key);
+}
+
+/* The same for all of an address of IPv4, or of a /48 of IPv6, so that coturn's quota counts for all of it. Of the /24 or /32 around that
+ * there are as many as it has parts. */
+static void write_id(const networks *from, char out[2 * ID + 1]) {
+    const network *wide = &from->of[from->count - 1], *inner = from->count > 1 ? wide - 1 : wide;
+    uint8_t hash[crypto_generichash_BYTES_MIN];
+    hash_of(inner, 0, hash);
+    hash_of(wide, hash[0] % PARTS, hash);
+    sodium_bin2hex(out, 2 * ID + 1, hash, ID);
+}
+
 /* A user that ends by itself, and its password: so coturn knows it by use-auth-secret. */
-static void give_relays(door_answer *answer) {
+static void give_relays(door_answer *answer, const networks *from) {
     uint8_t digest[32];
     gsize length = sizeof digest;
-    char number[NAME];
-    randombytes_buf(digest, 8);
-    sodium_bin2hex(number, sizeof number, digest, 8);
-    snprintf(answer->user, sizeof answer->user, "%lld:%s", (long long)time(NULL) + self.hours * 3600, number);
+    char id[2 * ID + 1];
+    write_id(from, id);
+    snprintf(answer->user, sizeof answer->user, "%lld:%s", (long long)time(NULL) + self.hours * 3600, id);
     GHmac *made = g_hmac_new(G_CHECKSUM_SHA1, (const guchar *)self.secret, strlen(self.secret));
     g_hmac_update(made, (const guchar *)answer->user, -1);
     g_hmac_get_digest(made, digest, &length);
@@ -204,7 +201,7 @@ static void put_relay(door_answer *answer, const faz_lobby_settings *of, bool by
 }
 
 /* self.servers[0] has the first relay as its STUN server too, if no other is named. */
-static void put_servers(door_answer *answer) {
+static void put_servers(door_answer *answer, const networks *from_whom) {
     static faz_lobby_settings stun;
     static lobby_words words;
     if (self.stun != NULL && stun.stun == NULL) {
@@ -218,34 +215,42 @@ static void put_servers(door_answer *answer) {
         for (int at = 0; at < 2; at++)
             put_relay(answer, &self.servers[at], by_tcp != 0);
     if (answer->relays > 0)
-        give_relays(answer);
+        give_relays(answer, from_whom);
 }
 
 /* ---- answering */
 
-/* A host that asks for longer isn't counted. */
+/* `keeps`: a host asks for the plate that it has, for longer. */
+static door_status status_of(const door_request *asked, bool keeps, const networks *from, door_answer *answer) {
+    if (!budget_take(&budget_of_asks, from, keeps, now_nanos())) {
+        self.refused++;
+        return DOOR_TOO_MANY;
+    }
+    return asked->kind == DOOR_HOSTS ? host(asked, answer) : asked->kind == DOOR_JOINS ? join(asked, answer) : DOOR_OK;
+}
+
+/* A network that goes on asking isn't answered any more: to seal an answer takes much longer than to count. */
 static void answer(natsConnection *broker, natsMsg *message) {
     door_request asked;
-    door_answer answer = {.status = DOOR_OK};
+    door_answer answer = {0};
     uint8_t out[DOOR_MESSAGE];
-    char from[HOST];
+    char address[HOST];
+    networks from;
     const char *reply = natsMsg_GetReply(message);
     const uint8_t *bytes = (const uint8_t *)natsMsg_GetData(message);
     if (reply == NULL || !door_request_read(&asked, bytes, (size_t)natsMsg_GetDataLength(message)))
         return;
     int number = asked.kind == DOOR_HOSTS ? plate_of(&asked) : -1;
-    bool is_longer = number >= 0 && is_taken(number);
-    read_host(message, from);
-    if (!is_longer && !may_ask(from))
-        answer.status = DOOR_TOO_MANY;
-    else if (asked.kind == DOOR_HOSTS)
-        answer.status = host(&asked, &answer);
-    else if (asked.kind == DOOR_JOINS)
-        answer.status = join(&asked, &answer);
+    bool keeps = number >= 0 && is_taken(number);
+    read_host(message, address);
+    networks_of(&from, address);
+    answer.status = status_of(&asked, keeps, &from, &answer);
+    if (answer.status == DOOR_TOO_MANY && !budget_take(&budget_of_refusals, &from, false, now_nanos()))
+        return;
     if (answer.status == DOOR_OK)
-        put_servers(&answer);
-    if (!is_longer)
-        printf("%s asks %c %s: %d\n", from, asked.kind, answer.plate, (int)answer.status);
+        put_servers(&answer, &from);
+    if (!keeps && answer.status != DOOR_TOO_MANY)
+        printf("%s asks %c %s: %d\n", address, asked.kind, answer.plate, (int)answer.status);
     fflush(stdout);
     size_t length = door_answer_write(&answer, asked.open, out);
     if (length > 0)
@@ -292,14 +297,17 @@ static int serve(void) {
     if (status == NATS_OK)
         status = natsConnection_SubscribeSync(&asked, broker, DOOR_SUBJECT);
     if (status == NATS_OK)
+        status = natsSubscription_SetPendingLimits(asked, WAITING, WAITING * DOOR_MESSAGE);
+    if (status == NATS_OK)
         puts("the door is open");
     fflush(stdout);
-    while (status == NATS_OK || status == NATS_TIMEOUT) {
+    while (status == NATS_OK || status == NATS_TIMEOUT || status == NATS_SLOW_CONSUMER) {
         natsMsg *message = NULL;
         status = natsSubscription_NextMsg(&message, asked, WAIT);
         if (status == NATS_OK)
             answer(broker, message);
         natsMsg_Destroy(message);
+        say_refused();
     }
     fprintf(stderr, "faz-door: %s\n",
             status == NATS_CONNECTION_AUTH_FAILED ? "the broker doesn't let this door in" : natsStatus_GetText(status));
@@ -354,7 +362,9 @@ int main(int count, char **words) {
         {"--relay", NULL, &self.relay, NULL},   {"--second", NULL, &self.second, NULL},   {"--secret", NULL, &self.secret_file, NULL},
         {"--hours", &self.hours, NULL, NULL},   {"--tries", &self.tries, NULL, NULL},     {"--creds", NULL, &self.creds, NULL},
         {NULL, NULL, NULL, NULL}};
-    if (read_options(words, options) != count || self.hours < 1 || self.hours > 8760 || self.tries < 1)
+    if (is_help(words, usage))
+        return 0;
+    if (read_options(words, options) != count || self.hours < 1 || self.hours > 8760 || self.tries < 1 || self.tries > BUDGET_MOST)
         return fail("these words can't be read");
     const char *why = read_servers();
     if (why != NULL)
@@ -365,6 +375,8 @@ int main(int count, char **words) {
         return fail("the file of --creds can't be read");
     if ((self.relay != NULL) != (self.secret_file != NULL) || (self.secret_file != NULL && !read_secret()))
         return fail("relays need --secret, with a line static-auth-secret=..");
-    randombytes_buf(self.hash_key, sizeof self.hash_key);
+    crypto_generichash(self.id_key, sizeof self.id_key, (const uint8_t *)self.secret, strlen(self.secret), NULL, 0);
+    budget_begin(&budget_of_asks, self.tries);
+    budget_begin(&budget_of_refusals, self.tries);
     return serve();
 }

@@ -4,13 +4,13 @@
 #include "../words.h"
 
 #include "../../duel/options.h"
+#include "../../duel/stops.h"
 
 #include <arpa/inet.h>
 #include <fcntl.h>
 #include <inttypes.h>
 #include <netinet/in.h>
 #include <poll.h>
-#include <signal.h>
 #include <stdio.h>
 #include <sys/socket.h>
 #include <time.h>
@@ -55,13 +55,6 @@ static struct {
     const char *join;
     lobby_words words;
 } self;
-
-static volatile sig_atomic_t is_stopped;
-
-static void on_signal(int number) {
-    (void)number;
-    is_stopped = 1;
-}
 
 static int fail(const char *why) {
     fprintf(stderr, "faz-friend: %s\n", why);
@@ -151,7 +144,7 @@ static void tell_events(void) {
     faz_lobby_event event;
     char text[FAZ_LOBBY_TEXT_ROOM + 64];
     while (faz_lobby_next_event(self.lobby, &event)) {
-        faz_lobby_words_of(&event, text, sizeof text);
+        faz_lobby_words_of(self.lobby, &event, text, sizeof text);
         if (event.what == FAZ_LOBBY_CODE) {
             printf("%s\n", text);
             fflush(stdout);
@@ -184,7 +177,7 @@ static void rest(void) {
 }
 
 static int run(void) {
-    while (!is_stopped) {
+    while (!is_stopped()) {
         faz_lobby_turn(self.lobby, millis());
         tell_events();
         if (faz_lobby_stage_of(self.lobby) == FAZ_LOBBY_OVER)
@@ -238,8 +231,10 @@ static const char *read_words(char **words) {
 
 int main(int count, char **words) {
     faz_lobby_settings settings = { .digest = DIGEST, .any_sender = true };
-    const char *why = read_words(words);
     (void)count;
+    if (is_help(words, usage))
+        return 0;
+    const char *why = read_words(words);
     for (uint32_t machine = 0; machine < FAZGROND_MACHINES; machine++)
         self.friends[machine].socket = -1;
     if (why == NULL)
@@ -252,9 +247,7 @@ int main(int count, char **words) {
     self.lobby = self.join != NULL ? faz_lobby_join(&settings, self.join, &why) : faz_lobby_host(&settings, &why);
     if (self.lobby == NULL)
         return fail(why);
-    struct sigaction stops = { .sa_handler = on_signal };
-    sigaction(SIGINT, &stops, NULL);
-    sigaction(SIGTERM, &stops, NULL);
+    stops_begin();
     int status = run();
     end();
     return status;

@@ -2,6 +2,8 @@
 #define _POSIX_C_SOURCE 200809L
 #include "../pass.h"
 
+#include "../../duel/options.h"
+
 #include <errno.h>
 #include <fcntl.h>
 #include <sodium.h>
@@ -165,6 +167,8 @@ static bool draw(const char *text) {
 int main(int count, char **words) {
     char path[PATH];
     const char *why;
+    if (is_help(words, usage))
+        return 0;
     if (count < 2 || count > 3 || words[1][0] == '-' || words[1][0] == 0) {
         fputs(usage, stderr);
         return 2;

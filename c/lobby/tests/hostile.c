@@ -12,7 +12,7 @@
 #include <string.h>
 #include <time.h>
 
-enum { LOBBIES = 4, KEPT = 4096, WHATS = FAZ_LOBBY_REFUSED + 1, NAME_LENGTH = 8 };
+enum { LOBBIES = 4, KEPT = 4096, WHATS = FAZ_LOBBY_UNANSWERED + 1, NAME_LENGTH = 8 };
 
 /* Names that junk doesn't have by chance. */
 static const char HOST[] = "Annalena", FRIEND[] = "Bobbejan";
@@ -23,6 +23,7 @@ static struct {
     unsigned told[LOBBIES][WHATS];
     faz_lobby_event last[LOBBIES];
     char code[FAZ_LOBBY_CODE_ROOM];
+    faz_lobby_why code_why;
     uint32_t skipped; /* milliseconds that were left out */
     natsConnection *stranger;
     natsSubscription *all;
@@ -57,8 +58,10 @@ static void turn(void) {
         while (faz_lobby_next_event(self.lobby[at], &event)) {
             self.told[at][event.what]++;
             self.last[at] = event;
-            if (event.what == FAZ_LOBBY_CODE)
-                strcpy(self.code, event.text);
+            if (event.what != FAZ_LOBBY_CODE)
+                continue;
+            strcpy(self.code, event.text);
+            self.code_why = event.why;
         }
     }
     nanosleep(&(struct timespec){.tv_nsec = 1000000}, NULL);
@@ -67,6 +70,14 @@ static void turn(void) {
 static void run(uint32_t milliseconds) {
     for (uint32_t begun = now(); now() - begun < milliseconds;)
         turn();
+}
+
+/* Seconds pass, and nobody's is so long that others think it gone. */
+static void wait_for(uint32_t milliseconds) {
+    for (; milliseconds > 0; milliseconds -= milliseconds < 1000 ? milliseconds : 1000) {
+        self.skipped += milliseconds < 1000 ? milliseconds : 1000;
+        run(20);
+    }
 }
 
 /* Whether a lobby comes to a stage in five seconds. */
@@ -312,7 +323,26 @@ static void test_false_host(void) {
     forget();
 }
 
-/* Who has left isn't brought back by its old messages, and its seat is free. */
+/* So many who have the code ask, by another game, and leave. */
+static void come_and_leave(int many) {
+    uint8_t message[BROKER_MESSAGE], secret[KEY];
+    const room *in = &self.lobby[0]->room;
+    for (int one = 0; one < many; one++) {
+        pair between;
+        ask text = {.digest = 8, .here = 1, .name = "crowd"};
+        crypto_kx_keypair(text.open, secret);
+        pair_of(&between, in, text.open, secret, self.lobby[0]->keys.open);
+        for (text.counter = 1; text.counter <= 2; text.counter++) {
+            text.leaves = text.counter == 2;
+            say(self.lobby[0]->room_name, self.nobody, message, ask_write(&text, in, &between, message));
+        }
+        if (one % 16 == 0)
+            run(5);
+    }
+    run(100);
+}
+
+/* Who has left isn't brought back by its old messages, however many have left behind it, and its seat is free. */
 static void test_ghosts(void) {
     open_host(3, false);
     open_friend(1);
@@ -323,6 +353,11 @@ static void test_ghosts(void) {
     say_again(0, self.count);
     run(200);
     check(self.told[0][FAZ_LOBBY_JOINED] == 1, "it is back by what it had said");
+    size_t count = self.count;
+    come_and_leave(300);
+    say_again(0, count);
+    run(200);
+    check(self.told[0][FAZ_LOBBY_JOINED] == 1, "it is back after 300 others have left");
     open_friend(1);
     open_friend(2);
     for (int at = 0; at < 3; at++)
@@ -409,12 +444,49 @@ static void test_refusals(void) {
     run(300);
     self.skipped += 11000;
     check(comes_to(1, FAZ_LOBBY_OVER) && self.last[1].why == FAZ_LOBBY_NO_SUCH_CODE, "nobody answers");
+    check(self.told[1][FAZ_LOBBY_UNANSWERED] == 0, "and nobody says so");
     close_one(1);
     listen(false);
     open_friend(1);
     uint32_t begun = now();
-    check(comes_to(1, FAZ_LOBBY_OVER) && self.last[1].why == FAZ_LOBBY_NO_SUCH_CODE && now() - begun < 2000, "nobody hears");
+    check(is_told(1, FAZ_LOBBY_UNANSWERED, 1) && self.last[1].why == FAZ_LOBBY_NO_SUCH_CODE && now() - begun < 2000, "nobody hears");
+    wait_for(8000);
+    check(faz_lobby_stage_of(self.lobby[1]) == FAZ_LOBBY_MEETING, "it waits for ten seconds");
+    wait_for(1000);
+    check(comes_to(1, FAZ_LOBBY_OVER) && self.last[1].why == FAZ_LOBBY_NO_SUCH_CODE, "and no longer");
     listen(true);
+    close_all();
+    forget();
+}
+
+/* Says what a broker says when nobody hears, which anybody can. */
+static void say_nobody(const char *subject) {
+    natsMsg *message = NULL;
+    if (natsMsg_Create(&message, subject, NULL, NULL, 0) == NATS_OK && natsMsgHeader_Set(message, "Status", "503") == NATS_OK)
+        natsConnection_PublishMsg(self.stranger, message);
+    natsMsg_Destroy(message);
+    natsConnection_FlushTimeout(self.stranger, 1000);
+}
+
+/* The host is slow, and somebody says meanwhile that nobody hears the friend: that is told at once, and once, and ends nothing. */
+static void test_false_nobody(void) {
+    open_host(2, false);
+    faz_lobby *slow = self.lobby[0];
+    self.lobby[0] = NULL;
+    open_friend(1);
+    for (int times = 0; times < 20; times++) {
+        say_nobody(self.lobby[1]->inbox_name);
+        run(10);
+    }
+    check(self.told[1][FAZ_LOBBY_UNANSWERED] == 1 && strstr(self.last[1].text, "nobody answers so far") != NULL
+              && strstr(self.last[1].text, "10 seconds") != NULL, "it is told, and for how long it is waited");
+    wait_for(8000);
+    check(faz_lobby_stage_of(self.lobby[1]) == FAZ_LOBBY_MEETING, "it ends nothing");
+    self.lobby[0] = slow;
+    check(comes_to(1, FAZ_LOBBY_READY), "the friend comes in");
+    say_nobody(self.lobby[1]->inbox_name);
+    run(50);
+    check(self.told[1][FAZ_LOBBY_UNANSWERED] == 1 && self.told[1][FAZ_LOBBY_ENDED] == 0, "and stays");
     close_all();
     forget();
 }
@@ -483,6 +555,93 @@ static void test_false_news(void) {
     faz_lobby_close(stopped);
     close_all();
     forget();
+}
+
+/* Machine 1 tells the host that somebody has a place. */
+static void tell_news(uint32_t counter, uint32_t place, const uint8_t open[KEY]) {
+    uint8_t message[BROKER_MESSAGE];
+    news lie = {.counter = counter, .place = place, .who = {.name = "liar"}};
+    memcpy(lie.who.open, open, KEY);
+    say(self.lobby[0]->inbox_name, NULL, message, news_write(1, &lie, &self.lobby[1]->other[0].pair, message));
+    natsConnection_FlushTimeout(self.stranger, 1000);
+    run(100);
+}
+
+/* Lines that talk are heard again after this, and who has stopped isn't, of whom all has come before. */
+static void fall_silent(uint32_t milliseconds) {
+    run(200);
+    self.skipped += milliseconds;
+    run(400);
+}
+
+/* A machine of the match asks another one, which answers, for the host's place, by the key that it has itself. */
+static void ask_anew(int from, int to, const char *name) {
+    uint8_t message[BROKER_MESSAGE];
+    pair between;
+    ask text = {.counter = 1, .digest = 7, .here = 1};
+    const room *in = &self.lobby[to]->later;
+    strcpy(text.name, name);
+    memcpy(text.open, self.lobby[from]->keys.open, KEY);
+    pair_of(&between, in, text.open, self.lobby[from]->keys.secret, self.lobby[to]->keys.open);
+    say(self.lobby[to]->inbox_name, self.lobby[from]->inbox_name, message, ask_write(&text, in, &between, message));
+    run(300);
+}
+
+/* A machine that lies has no other one open a line by a key that somebody of the match has, or had: what that seals would be sealed by the
+ * same keys, and counted from the same number. A key that nobody had is taken. */
+static void test_known_keys(void) {
+    uint8_t before[KEY], fresh[KEY], secret[KEY];
+    uint32_t counter = 0;
+    self.lasts = true;
+    open_host(3, false);
+    open_friend(1);
+    check(is_told(1, FAZ_LOBBY_JOINED, 1), "a friend is in");
+    open_friend(2);
+    for (int at = 0; at < 3; at++)
+        check(comes_to(at, FAZ_LOBBY_READY), "the match begins");
+    memcpy(before, self.lobby[2]->keys.open, KEY);
+    faz_lobby *stopped = self.lobby[2];
+    self.lobby[2] = NULL;
+    fall_silent(1100);
+    for (uint32_t machine = 0; machine < 3; machine++)
+        tell_news(++counter, 2, self.lobby[0]->table.member[machine].open);
+    check(self.told[0][FAZ_LOBBY_COMES] == 0, "nobody comes by a key that somebody has");
+    fall_silent(1100);
+    open_friend(2);
+    check(comes_to(2, FAZ_LOBBY_READY) && self.told[0][FAZ_LOBBY_COMES] == 1, "a friend comes");
+    faz_lobby *stopped_too = self.lobby[2];
+    self.lobby[2] = NULL;
+    fall_silent(1100);
+    tell_news(++counter, 2, before);
+    check(self.told[0][FAZ_LOBBY_COMES] == 1, "nobody comes by a key that somebody had");
+    crypto_kx_keypair(fresh, secret);
+    tell_news(++counter, 2, fresh);
+    check(is_told(0, FAZ_LOBBY_COMES, 2), "by a key that nobody had somebody comes");
+    faz_lobby_close(stopped);
+    faz_lobby_close(stopped_too);
+    close_all();
+    forget();
+    self.lasts = false;
+}
+
+/* Who is in the match doesn't come into it once more by its key. */
+static void test_known_comer(void) {
+    self.lasts = true;
+    open_host(3, false);
+    open_friend(1);
+    check(is_told(1, FAZ_LOBBY_JOINED, 1), "a friend is in");
+    open_friend(2);
+    for (int at = 0; at < 3; at++)
+        check(comes_to(at, FAZ_LOBBY_READY), "the match begins");
+    faz_lobby *stopped = self.lobby[0];
+    self.lobby[0] = NULL;
+    fall_silent(1600);
+    ask_anew(2, 1, HOST);
+    check(self.told[1][FAZ_LOBBY_COMES] == 0, "a machine has a second place by its own key");
+    faz_lobby_close(stopped);
+    close_all();
+    forget();
+    self.lasts = false;
 }
 
 /* Of a seat that nobody has yet nobody speaks, whatever its key, and nobody is told that it is nobody's; a friend gets it. */
@@ -554,7 +713,7 @@ static void open_short(uint32_t players) {
     memset(self.told, 0, sizeof self.told);
     self.lobby[0] = faz_lobby_host(&settings, &why);
     check(self.lobby[0] != NULL && is_told(0, FAZ_LOBBY_CODE, 1), "a host with a short code");
-    check(strlen(self.code) == 8 && self.code[3] == '-', "it is short");
+    check(strlen(self.code) == 8 && self.code[3] == '-' && self.code_why == FAZ_LOBBY_NO_REASON, "it is short");
 }
 
 /* The friend is asked for, and let in. */
@@ -571,6 +730,12 @@ static faz_lobby_why try_wrong(void) {
     self.code[7] = self.code[7] == '7' ? '8' : '7';
     open_friend(2);
     strcpy(self.code, right);
+    check(is_told(2, FAZ_LOBBY_UNANSWERED, 1) && self.last[2].why == FAZ_LOBBY_WRONG_CODE, "that a code is wrong is told at once");
+    for (uint32_t begun = now(); now() - begun < 5000 && !self.lobby[0]->door.is_answered;)
+        turn(); /* the host may have another code now */
+    wait_for(2000);
+    check(faz_lobby_stage_of(self.lobby[2]) == FAZ_LOBBY_MEETING, "it waits for three seconds");
+    wait_for(1000);
     check(comes_to(2, FAZ_LOBBY_OVER), "a wrong code ends it");
     faz_lobby_why why = self.last[2].why;
     close_one(2);
@@ -602,11 +767,14 @@ static void test_burnt(void) {
     for (int times = 0; times < 5; times++)
         check(try_wrong() == FAZ_LOBBY_WRONG_CODE, "a wrong code is known as such");
     check(is_told(0, FAZ_LOBBY_CODE, 2) && strcmp(before, self.code) != 0, "the code is another one");
+    check(self.code_why == FAZ_LOBBY_WRONG_CODE, "and the host is told why");
     char now_it_is[FAZ_LOBBY_CODE_ROOM];
     strcpy(now_it_is, self.code);
     strcpy(self.code, before);
     listen(false);
     open_friend(2);
+    run(300);
+    wait_for(10000);
     check(comes_to(2, FAZ_LOBBY_OVER) && self.last[2].why == FAZ_LOBBY_NO_SUCH_CODE, "the one before is none");
     listen(true);
     close_one(2);
@@ -618,17 +786,63 @@ static void test_burnt(void) {
     forget();
 }
 
-/* In a match that lasts a short code bears as many tries, and then there is none. */
+/* Somebody knocks, and shows nothing. */
+static void knock_once(void) {
+    uint8_t message[BROKER_MESSAGE];
+    knock text = {.step = 1};
+    pake *one = pake_open(false, self.lobby[0]->hosting.plate, "0000");
+    randombytes_buf(text.id, KNOCK_ID);
+    pake_turn(one, NULL, 0, text.bytes, &text.length);
+    pake_close(one);
+    say(self.lobby[0]->room_name, self.nobody, message, knock_write(&text, KNOCK, message));
+    run(100);
+}
+
+/* After twenty in all there is a long code, and no short one any more, however many try. Who was let in before stays. */
+static void test_all_tries(void) {
+    open_short(3);
+    let_in(1);
+    check(is_told(1, FAZ_LOBBY_JOINED, 1), "a friend is in");
+    for (unsigned codes = 1; codes <= 4; codes++) {
+        check(is_told(0, FAZ_LOBBY_CODE, codes) && strlen(self.code) == 8, "a short code");
+        for (int times = 0; times < 5; times++)
+            knock_once();
+        self.skipped += 6000;
+        run(100);
+    }
+    uint8_t code[CODE_BYTES];
+    check(is_told(0, FAZ_LOBBY_CODE, 5) && code_read(self.code, code), "a long code");
+    check(self.code_why == FAZ_LOBBY_WRONG_CODE, "and the host is told why");
+    for (int times = 0; times < 12; times++) {
+        self.skipped += 1000;
+        knock_once();
+    }
+    check(self.told[0][FAZ_LOBBY_CODE] == 5 && self.lobby[0]->hosting.wrong_all == 20, "there are no more tries");
+    check(self.told[0][FAZ_LOBBY_LEFT] == 0 && self.told[1][FAZ_LOBBY_ENDED] == 0, "who was let in stays");
+    let_in(2);
+    for (int at = 0; at < 3; at++)
+        check(comes_to(at, FAZ_LOBBY_READY), "all play");
+    close_all();
+    forget();
+}
+
+/* In a match that lasts a short code bears as many tries, and then there is none: the host is told the long one, and why. */
 static void test_no_more_tries(void) {
+    faz_lobby_match match;
+    char before[FAZ_LOBBY_CODE_ROOM], long_one[FAZ_LOBBY_CODE_ROOM];
     self.lasts = true;
     open_short(2);
     let_in(1);
-    check(comes_to(0, FAZ_LOBBY_READY) && comes_to(1, FAZ_LOBBY_READY), "the match runs");
+    check(comes_to(0, FAZ_LOBBY_READY) && comes_to(1, FAZ_LOBBY_READY) && faz_lobby_get_match(self.lobby[0], &match), "the match runs");
+    strcpy(before, self.code);
     for (int times = 0; times < 5; times++)
         check(try_wrong() == FAZ_LOBBY_WRONG_CODE, "a wrong code is known as such");
+    strcpy(long_one, self.code);
+    strcpy(self.code, before);
     open_friend(2);
     run(2000);
-    check(self.told[0][FAZ_LOBBY_CODE] == 1 && self.told[0][FAZ_LOBBY_ASKS] == 1, "the code is no more");
+    check(self.told[0][FAZ_LOBBY_CODE] == 2 && self.told[0][FAZ_LOBBY_ASKS] == 1, "the code is no more");
+    check(strcmp(long_one, match.code) == 0 && self.code_why == FAZ_LOBBY_WRONG_CODE, "the host is told the long one");
     check(faz_lobby_stage_of(self.lobby[2]) == FAZ_LOBBY_MEETING, "who has it isn't answered");
     self.lasts = false;
     close_all();
@@ -639,15 +853,8 @@ static void test_no_more_tries(void) {
 static void test_knocks(void) {
     uint8_t message[BROKER_MESSAGE];
     open_short(2);
-    for (int times = 0; times < 3; times++) {
-        knock text = {.step = 1};
-        pake *one = pake_open(false, self.lobby[0]->hosting.plate, "0000");
-        randombytes_buf(text.id, KNOCK_ID);
-        pake_turn(one, NULL, 0, text.bytes, &text.length);
-        pake_close(one);
-        say(self.lobby[0]->room_name, self.nobody, message, knock_write(&text, KNOCK, message));
-        run(100);
-    }
+    for (int times = 0; times < 3; times++)
+        knock_once();
     run(300);
     self.skipped += 6000;
     run(100);
@@ -676,6 +883,88 @@ static void test_knocks(void) {
     for (size_t at = 0; at < self.count; at++)
         for (int place = 0; place + 4 <= natsMsg_GetDataLength(self.kept[at]); place++)
             check(memcmp(natsMsg_GetData(self.kept[at]) + place, signs, 4) != 0, "the last four signs are seen");
+    close_all();
+    forget();
+}
+
+/* Says something in the host's place, to the last one who knocked. */
+static void say_knocked(bool is_wrong, size_t length) {
+    uint8_t message[BROKER_MESSAGE];
+    knock text = {.step = self.lobby[1]->joining.knock.step, .is_wrong = is_wrong, .length = length};
+    memcpy(text.id, self.lobby[1]->joining.knock.id, KNOCK_ID);
+    randombytes_buf(text.bytes, sizeof text.bytes);
+    say(self.lobby[1]->inbox_name, NULL, message, knock_write(&text, KNOCKED, message));
+    natsConnection_FlushTimeout(self.stranger, 1000);
+    run(50);
+}
+
+/* The host is slow, and somebody who heard a friend knock answers in its place: that the code is wrong, that nobody hears, and junk that
+ * spoils two proofs. It ends nothing, and the third proof lets the friend in. */
+static void test_false_knocked(void) {
+    open_short(2);
+    faz_lobby *slow = self.lobby[0];
+    self.lobby[0] = NULL;
+    open_friend(1);
+    for (uint32_t begun = now(); now() - begun < 5000 && self.lobby[1]->joining.stage != KNOCKS;)
+        turn();
+    for (int times = 0; times < 10; times++)
+        say_knocked(true, 0);
+    check(self.told[1][FAZ_LOBBY_UNANSWERED] == 1 && self.last[1].why == FAZ_LOBBY_WRONG_CODE
+              && strstr(self.last[1].text, "3 seconds") != NULL, "it is told, and for how long it is waited");
+    say_nobody(self.lobby[1]->inbox_name);
+    say_knocked(false, 300);
+    say_knocked(false, 0);
+    check(self.told[1][FAZ_LOBBY_UNANSWERED] == 2 && self.told[1][FAZ_LOBBY_ENDED] == 0, "it ends nothing");
+    check(self.lobby[1]->joining.knocks == 3, "it knocks anew");
+    self.lobby[0] = slow;
+    check(is_told(0, FAZ_LOBBY_ASKS, 1) && faz_lobby_let_in(self.lobby[0], self.last[0].who, true), "the friend is let in");
+    check(comes_to(0, FAZ_LOBBY_READY) && comes_to(1, FAZ_LOBBY_READY), "and plays");
+    close_all();
+    forget();
+}
+
+/* What the host says behind its proof comes first with a bit changed: it ends nothing, and the host says it again. */
+static void test_false_offer(void) {
+    open_short(2);
+    open_friend(1);
+    for (uint32_t begun = now(); now() - begun < 5000 && self.lobby[1]->joining.knock.step < 2;)
+        turn();
+    faz_lobby *joins = self.lobby[1];
+    self.lobby[1] = NULL;
+    forget();
+    run(100);
+    hear();
+    broker_message changed = {0};
+    for (size_t at = 0; at < self.count; at++)
+        if (strcmp(natsMsg_GetSubject(self.kept[at]), joins->inbox_name) == 0) {
+            changed.length = (size_t)natsMsg_GetDataLength(self.kept[at]);
+            memcpy(changed.bytes, natsMsg_GetData(self.kept[at]), changed.length);
+        }
+    check(changed.length > SEAL, "the host says something");
+    changed.bytes[changed.length - 1] ^= 1;
+    join_hear(joins, &changed);
+    self.lobby[1] = joins;
+    check(joins->joining.has_key && !joins->is_over, "it ends nothing");
+    check(is_told(0, FAZ_LOBBY_ASKS, 1) && faz_lobby_let_in(self.lobby[0], self.last[0].who, true), "the friend is let in");
+    check(comes_to(0, FAZ_LOBBY_READY) && comes_to(1, FAZ_LOBBY_READY), "and plays");
+    close_all();
+    forget();
+}
+
+/* Who spoils each proof is told on by the clock: the player hears that the code is wrong, three seconds after the first one. */
+static void test_no_proof(void) {
+    open_short(2);
+    faz_lobby *slow = self.lobby[0];
+    self.lobby[0] = NULL;
+    open_friend(1);
+    for (uint32_t begun = now(); now() - begun < 5000 && self.lobby[1]->joining.stage != KNOCKS;)
+        turn();
+    for (int times = 0; times < 6; times++)
+        say_knocked(false, 200);
+    check(self.lobby[1]->joining.knocks == 3 && self.told[1][FAZ_LOBBY_ENDED] == 0, "it knocks three times");
+    wait_for(3000);
+    check(comes_to(1, FAZ_LOBBY_OVER) && self.last[1].why == FAZ_LOBBY_WRONG_CODE, "and is told in time");
+    self.lobby[0] = slow;
     close_all();
     forget();
 }
@@ -733,11 +1022,13 @@ int main(int count, char **words) {
     static const test tests[] = {
         {"settings", test_settings}, {"stranger", test_stranger}, {"hidden", test_hidden}, {"elsewhere", test_elsewhere}, {"older", test_older},
         {"false host", test_false_host}, {"ghosts", test_ghosts}, {"silence", test_silence}, {"crowd", test_crowd},
-        {"refusals", test_refusals}, {"host leaves", test_host_leaves},
-        {"false news", test_false_news}, {"false vacancies", test_false_vacancies}};
+        {"refusals", test_refusals}, {"false nobody", test_false_nobody}, {"host leaves", test_host_leaves},
+        {"false news", test_false_news}, {"known keys", test_known_keys}, {"known comer", test_known_comer},
+        {"false vacancies", test_false_vacancies}};
     static const test shorts[] = {
-        {"wrong tries", test_wrong_tries}, {"burnt", test_burnt}, {"no more tries", test_no_more_tries}, {"knocks", test_knocks},
-        {"knocks again", test_knocks_again}, {"no plate", test_no_plate}};
+        {"all tries", test_all_tries}, {"wrong tries", test_wrong_tries}, {"burnt", test_burnt}, {"no more tries", test_no_more_tries},
+        {"knocks", test_knocks}, {"knocks again", test_knocks_again}, {"false knocked", test_false_knocked}, {"false offer", test_false_offer},
+        {"no proof", test_no_proof}, {"no plate", test_no_plate}};
     bool are_short = count == 3 && strcmp(words[2], "short") == 0;
     if (count != 2 && !are_short)
         return 2;

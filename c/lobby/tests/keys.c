@@ -131,6 +131,22 @@ static void check_vouching(void) {
     check(!host_vouched(proof, open, speaks), "for another key");
 }
 
+/* So many keys that were here are known, and the oldest one is forgotten then. */
+static void check_seen(void) {
+    static seen_keys seen;
+    uint8_t open[KEY] = {0}, first[KEY] = {0};
+    check(!seen_has(&seen, open), "no key was here");
+    for (uint32_t at = 0; at < 4096; at++) {
+        memcpy(open, &at, sizeof at);
+        seen_note(&seen, open);
+    }
+    check(seen_has(&seen, open) && seen_has(&seen, first), "4,096 keys");
+    open[KEY - 1] = 1;
+    check(!seen_has(&seen, open), "another one");
+    seen_note(&seen, open);
+    check(seen_has(&seen, open) && !seen_has(&seen, first), "and then the first one is forgotten");
+}
+
 /* A table comes back as it was, and none is read whose places don't hold together, or that was cut short. */
 static void check_tables(const room *in) {
     static answer written, came;
@@ -161,6 +177,11 @@ static void check_tables(const room *in) {
     text->me = 1;
     text->players = 7;
     check(!answer_read(&came, &joins, message, answer_write(&written, &host, message)), "an owner of no player");
+    text->players = 8;
+    member one = text->member[7];
+    memcpy(text->member[7].open, text->member[2].open, KEY);
+    check(!answer_read(&came, &joins, message, answer_write(&written, &host, message)), "a key of two machines");
+    text->member[7] = one;
     for (size_t cut = 0; cut < length; cut++)
         check(!answer_read(&came, &joins, message, cut), "cut short");
 }
@@ -200,6 +221,14 @@ static void check_servers(void) {
         check_server(bad[at], NULL, 0);
 }
 
+/* A host's player reads why a code is another one. */
+static void check_told(faz_lobby_why why, const char *due) {
+    faz_lobby_event event = {.what = FAZ_LOBBY_CODE, .why = why, .text = "KXQ-4H7P"};
+    char text[FAZ_LOBBY_TEXT_ROOM];
+    faz_lobby_words_of(NULL, &event, text, sizeof text);
+    check(strcmp(text, due) == 0, text);
+}
+
 static int say_code(void) {
     uint8_t code[CODE_BYTES];
     char text[CODE_TEXT];
@@ -226,8 +255,11 @@ int main(int count, char **words) {
     check_pairs(&in, &elsewhere);
     check_bad_keys(&in);
     check_vouching();
+    check_seen();
     check_tables(&in);
     check_servers();
+    check_told(FAZ_LOBBY_NO_REASON, "the code is KXQ-4H7P");
+    check_told(FAZ_LOBBY_WRONG_CODE, "wrong codes were tried, so the code is another one: KXQ-4H7P");
     check_name("Zo\xc3\xab", "Zo\xc3\xab");
     check_name("a\x1b[2Jb\n", "a?[2Jb?");
     check_name("\xff\xc3", "??");

@@ -57,7 +57,7 @@ static long millis(void) {
     return (long)((micros() - self.begun) / 1000);
 }
 
-static const char *const WHATS[] = {"code", "away", "asks", "joined", "left", "full", "up", "silent", "blocked", "ended", "comes", "refused"};
+static const char *const WHATS[] = {"code", "away", "asks", "joined", "left", "full", "up", "silent", "blocked", "ended", "comes", "refused", "unanswered"};
 static const char *const WHYS[] = {"-", "no-such-code", "no-seat", "other-game", "not-let-in", "host-left", "other-library", "system",
                                    "wrong-code", "too-many", "a-page"};
 
