@@ -61,7 +61,9 @@ typedef struct place {
     record records[KEPT];
     bool is_closing, is_here; /* a seam is carried out; it has begun to play */
     bool is_fewer;            /* somebody has left in this turn */
+    bool is_alone;            /* nobody hosts the match into which it comes, or is there in the one into which it came */
     uint32_t me, wait, begun, came_at, gave, frames_stood, epochs, desyncs;
+    uint32_t posted; /* datagrams of its hosting */
     datagram *line;
     size_t on_the_way;
 } place;
@@ -145,7 +147,11 @@ static void post(uint32_t from, uint32_t to, const uint8_t *bytes, size_t length
     memcpy(sent->bytes, bytes, length);
 }
 
-static void send_by(void *of, uint32_t to, const uint8_t *bytes, size_t length) { post((uint32_t)((place *)of - all), to, bytes, length); }
+static void send_by(void *of, uint32_t to, const uint8_t *bytes, size_t length) {
+    place *self = of;
+    self->posted += self->mode == PLAYS;
+    post((uint32_t)(self - all), to, bytes, length);
+}
 
 /* ---- Its programs. */
 
@@ -319,6 +325,7 @@ static void hear_events(place *self) {
         self->wait = event.code == FAZGROND_TIME_SYNC ? event.frames_ahead : self->wait;
         self->desyncs += event.code == FAZGROND_DESYNC;
         self->is_fewer |= event.code == FAZGROND_LEFT || event.code == FAZGROND_DISCONNECTED;
+        self->is_alone |= event.code == FAZGROND_MISSING;
         IS(event.code == FAZGROND_REFUSED || event.code == FAZGROND_MISMATCH || event.code == FAZGROND_DROPPED, false);
     }
 }
@@ -415,7 +422,7 @@ static void take_turn_in_match(uint32_t at) {
 
 static void come(uint32_t at) {
     place *self = &all[at];
-    faz_comer_turn(&self->comer, now_of(at));
+    self->is_alone = faz_comer_turn(&self->comer, now_of(at)) == FAZGROND_NOTHING;
     for (uint32_t count = 0; count < STEPS && self->mode == COMES; count++) {
         faz_next next = faz_comer_next(&self->comer);
         switch (next.what) {
@@ -662,6 +669,58 @@ static void host_stops(uint32_t machines, uint32_t in_the_middle) {
     all_play(machines - 1);
 }
 
+/* All the others stop in the middle: who comes is told that nobody hosts the match, or, if it is in already, that they aren't there. */
+static void all_hosts_stop(uint32_t machines, uint32_t in_the_middle) {
+    uint32_t at = machines - 1;
+    begin(terms_for(machines));
+    run(200);
+    stop(at);
+    run(31);
+    begin_to_come(at);
+    run(in_the_middle);
+    for (uint32_t other = 0; other < at; other++)
+        stop(other);
+    run(400);
+    IS(all[at].is_alone || all[at].is_here, true);
+}
+
+/* Of a machine that has come in, and in whose match nobody else is, nobody is told that the match runs. */
+static void hosts_once_it_plays(uint32_t machines, uint32_t none) {
+    uint32_t at = machines - 1;
+    (void)none;
+    begin(terms_for(machines));
+    run(200);
+    stop(at);
+    run(31);
+    begin_to_come(at);
+    while (all[at].mode == COMES)
+        run(1);
+    for (uint32_t other = 0; other < at; other++)
+        stop(other);
+    begin_to_come(0);
+    run(250);
+    IS(all[at].is_here, false);
+    IS(all[0].is_alone, true);
+    IS(all[0].comer.host, FAZGROND_NO_MACHINE);
+}
+
+/* Beside a match into which nobody comes, and once somebody has come, nothing is sent to seats: whatever comes from their addresses. */
+static void is_quiet(uint32_t machines, uint32_t junk) {
+    terms of = terms_for(machines);
+    of.junk = junk;
+    begin(of);
+    run(150);
+    for (uint32_t at = 0; at < machines; at++)
+        IS(all[at].posted, 0);
+    (void)come_back(of, 100, 31);
+    run(100);
+    for (uint32_t at = 0; at < machines; at++)
+        all[at].posted = 0;
+    run(150);
+    for (uint32_t at = 0; at < machines; at++)
+        IS(all[at].posted <= junk * 150, true); /* what was recorded of a line has one answer */
+}
+
 /* Who only watches goes over seams. */
 static void watches(uint32_t machines, uint32_t seams) {
     uint32_t at = machines;
@@ -848,17 +907,26 @@ static void say_times(void) {
     }
 }
 
+static void try_few(uint32_t machines, bool is_few) {
+    tries("comes back", comes_back, machines, 31);
+    tries("comes back", comes_back, machines, 625);
+    tries("comes back late", comes_back_late, machines, 31);
+    tries("comes late", comes_late, machines, 100);
+    tries("comes back again", comes_back_again, machines, 3);
+    tries("watches", watches, machines, 3);
+    for (uint32_t turns = 1; turns <= 21; turns += 4)
+        tries("ends once who stopped is gone", ends_once_who_stopped_is_gone, machines, turns);
+    tries("plays after all", plays_after_all, machines, 200);
+    tries("hosts once it plays", hosts_once_it_plays, machines, 0);
+    for (uint32_t middle = 1; middle < 80; middle += is_few ? 40 : 20)
+        tries("all hosts stop", all_hosts_stop, machines, middle);
+    for (uint32_t junk = 0; junk <= 2; junk += 2)
+        tries("is quiet", is_quiet, machines, junk);
+}
+
 static void try_all(bool is_few) {
     for (uint32_t machines = 2; machines <= 4; machines++) {
-        tries("comes back", comes_back, machines, 31);
-        tries("comes back", comes_back, machines, 625);
-        tries("comes back late", comes_back_late, machines, 31);
-        tries("comes late", comes_late, machines, 100);
-        tries("comes back again", comes_back_again, machines, 3);
-        tries("watches", watches, machines, 3);
-        for (uint32_t turns = 1; turns <= 21; turns += 4)
-            tries("ends once who stopped is gone", ends_once_who_stopped_is_gone, machines, turns);
-        tries("plays after all", plays_after_all, machines, 200);
+        try_few(machines, is_few);
         if (is_few)
             break;
         tries("comes late", comes_late, machines, 1000);

@@ -16,8 +16,12 @@ static void log_event(GGPOSession *session, const fazgrond_event *event) {
              (unsigned)event->field, (unsigned)event->disconnect_in);
 }
 
-/* Whether an event is for the log alone: GGPO has none like it, and a game needs none. So are those that a later library may tell. */
-static bool is_logged_alone(uint32_t code) { return code >= FAZGROND_RESTARTED; }
+/* Whether an event is for the log alone: GGPO has none like it, and a game needs none, or hasn't asked. So are those that a later library
+ * may tell. */
+static bool is_logged_alone(const GGPOSession *session, uint32_t code) {
+    bool is_asked_for = session->tells_missing && (code == FAZGGPO_EVENTCODE_MISSING || code == FAZGGPO_EVENTCODE_STRANGERS);
+    return code >= FAZGROND_RESTARTED && !is_asked_for;
+}
 
 /* The first that is heard of a machine. */
 static void tell_connected(GGPOSession *session, const fazgrond_event *event) {
@@ -30,6 +34,12 @@ static void tell_connected(GGPOSession *session, const fazgrond_event *event) {
     told.code = GGPO_EVENTCODE_CONNECTED_TO_PEER;
     told.u.connected.player = handle_of(session, event->machine);
     session->call.on_event(&told);
+}
+
+/* Whether a machine has left whose players nobody has played so far. */
+static bool is_vacant(const GGPOSession *session, const fazgrond_event *event) {
+    int handle = handle_of(session, event->machine);
+    return event->code == FAZGROND_LEFT && handle >= 1 && session->player[handle - 1].is_vacant && session->player[handle - 1].has_left;
 }
 
 /* A word of a player's input has left. Whether the player has now, with all of them: of one who has left before, each epoch tells it
@@ -75,6 +85,11 @@ static GGPOEvent told_of(const GGPOSession *session, const fazgrond_event *event
         told.u.mismatch.player = handle;
         told.u.mismatch.field = (int)event->field;
         break;
+    case FAZGGPO_EVENTCODE_MISSING: told.u.missing.player = handle; break;
+    case FAZGGPO_EVENTCODE_STRANGERS:
+        told.u.strangers.player = handle;
+        told.u.strangers.count = (int)event->count;
+        break;
     default: break;
     }
     return told;
@@ -82,18 +97,35 @@ static GGPOEvent told_of(const GGPOSession *session, const fazgrond_event *event
 
 static void tell(GGPOSession *session, const fazgrond_event *event) {
     log_event(session, event);
-    if (is_logged_alone(event->code))
+    if (is_logged_alone(session, event->code))
         return;
     if (event->code == FAZGROND_SYNCHRONIZING || event->code == FAZGROND_SYNCHRONIZED)
         tell_connected(session, event);
-    if (event->code == FAZGROND_DISCONNECTED && !note_left(session, (int)event->player))
+    if (is_vacant(session, event) || (event->code == FAZGROND_DISCONNECTED && !note_left(session, (int)event->player)))
         return;
     GGPOEvent told = told_of(session, event);
     session->call.on_event(&told);
 }
 
-void ggponet_tell_of_match(GGPOSession *session) {
+void ggponet_note_event(GGPOSession *session, const fazgrond_event *event) {
+    if (session->event_count == EVENTS)
+        memmove(session->events, session->events + 1, (size_t)--session->event_count * sizeof *event);
+    session->events[session->event_count++] = *event;
+}
+
+void ggponet_take_events(GGPOSession *session) {
     fazgrond_event event;
-    while (fazgrond_peer_event(&session->peer, &event) == FAZGROND_OK)
-        tell(session, &event);
+    while (fazgrond_peer_event(&session->peer, &event) == FAZGROND_OK) {
+        session->is_fewer |= event.code == FAZGROND_LEFT || event.code == FAZGROND_DISCONNECTED;
+        if (event.code == FAZGROND_DROPPED) /* nobody could follow this machine any more */
+            ggponet_close_seats(session);
+        ggponet_note_event(session, &event);
+    }
+}
+
+void ggponet_tell_of_match(GGPOSession *session) {
+    ggponet_take_events(session);
+    for (int at = 0; at < session->event_count; at++)
+        tell(session, &session->events[at]);
+    session->event_count = 0;
 }

@@ -3,7 +3,7 @@
 
 enum {
     MOST_AT_ONCE = 256, /* datagrams that are taken in one go */
-    SEND_EVERY = 16667, /* microseconds */
+    SEND_EVERY = 20000, /* microseconds, while no input is given: each one is sent at once */
     WORD_BYTES = 4,     /* (WORD is a type on Windows) */
     MOST_BYTES = 16     /* of an input */
 };
@@ -182,15 +182,14 @@ static GGPOErrorCode hear(GGPOSession *session) {
         if (length >= 0)
             take(session, &from, bytes, (size_t)length);
     }
-    return session->is_spectating ? GGPO_OK : ggponet_poll(session);
+    /* Once a player has left, frames past the end of an epoch may be known: none is played before the next one has begun. */
+    bool is_in_frame = session->can_rejoin && (session->given != 0 || session->is_row_given);
+    return session->is_spectating || is_in_frame ? GGPO_OK : ggponet_poll(session);
 }
 
-/* Sends to all others, if it is time. */
-static void send_if_due(GGPOSession *session) {
-    uint64_t now = ggponet_micros(session);
-    if (now < session->send_due)
-        return;
-    session->send_due = now + SEND_EVERY;
+/* Sends to all others. */
+static void send_all(GGPOSession *session) {
+    session->send_due = ggponet_micros(session) + SEND_EVERY;
     if (session->is_spectating) {
         ggponet_send_to_host(session);
         return;
@@ -199,6 +198,11 @@ static void send_if_due(GGPOSession *session) {
     ggponet_ask_to_come(session);
     ggponet_send_to_machines(session);
     ggponet_send_to_spectators(session);
+}
+
+static void send_if_due(GGPOSession *session) {
+    if (ggponet_micros(session) >= session->send_due)
+        send_all(session);
 }
 
 /* How long nothing is to be done, but for what comes. */
@@ -221,8 +225,8 @@ static void tell_events(GGPOSession *session) {
 }
 
 static GGPOErrorCode idle_once(GGPOSession *session) {
+    session->given = 0;
     GGPOErrorCode code = hear(session);
-    session->is_turn_begun = false;
     if (code == GGPO_OK && !session->is_spectating)
         code = ggponet_come(session);
     if (code == GGPO_OK && !session->is_spectating)
@@ -317,10 +321,20 @@ static GGPOErrorCode add_to_sync_test(GGPOSession *session, GGPOPlayerHandle han
     return GGPO_OK;
 }
 
+/* Whether all local players' inputs of this frame were taken. */
+static bool has_all_inputs(const GGPOSession *session) {
+    for (int at = 0; at < session->players; at++)
+        if (session->player[at].type == GGPO_PLAYERTYPE_LOCAL && (session->given >> at & 1) == 0)
+            return false;
+    return true;
+}
+
 static GGPOErrorCode add_to_match(GGPOSession *session, GGPOPlayerHandle handle, const uint32_t *words) {
     const player *of = ggponet_player_of(session, handle);
     if (of == NULL || of->type != GGPO_PLAYERTYPE_LOCAL)
         return ggponet_no_player(session, handle);
+    if ((session->given >> (handle - 1) & 1) != 0)
+        return ggponet_refuse(session, GGPO_ERRORCODE_INVALID_REQUEST, "player %d gave an input for this frame already", handle);
     GGPOErrorCode code = ggponet_open_match(session);
     if (code != GGPO_OK)
         return code;
@@ -329,14 +343,16 @@ static GGPOErrorCode add_to_match(GGPOSession *session, GGPOPlayerHandle handle,
     code = hear(session);
     if (code == GGPO_OK)
         code = ggponet_come(session);
-    if (code == GGPO_OK && !session->is_turn_begun)
+    if (code == GGPO_OK && session->given == 0)
         code = ggponet_go_on(session);
     if (code == GGPO_OK)
         code = ggponet_give_words(session, handle, words);
-    session->is_turn_begun |= code == GGPO_OK;
-    if (code == GGPO_OK)
-        send_if_due(session);
-    return code;
+    if (code != GGPO_OK)
+        return code;
+    session->given |= 1u << (handle - 1);
+    if (has_all_inputs(session))
+        send_all(session);
+    return GGPO_OK;
 }
 
 GGPOErrorCode ggpo_add_local_input(GGPOSession *session, GGPOPlayerHandle handle, void *values, int size) {
@@ -386,7 +402,8 @@ GGPOErrorCode ggpo_advance_frame(GGPOSession *session) {
     if (!session->is_row_given)
         return ggponet_refuse(session, GGPO_ERRORCODE_INVALID_REQUEST,
                               "ggpo_synchronize_input has to come before each frame");
-    session->is_row_given = session->is_turn_begun = false;
+    session->is_row_given = false;
+    session->given = 0;
     if (session->sync_frames != 0)
         return ggponet_advance_sync_test(session);
     if (!session->is_spectating)

@@ -107,6 +107,11 @@ enum {
                                             * for too long */
 };
 
+/* Of a session that asks for them (fazggpo_tell_missing), after the disconnect timeout. A machine hasn't come: it is waited for. And so
+ * many datagrams came in the place of its own that aren't of this match: with another number (fazggpo_set_match), another name of the
+ * game, number of players or size of inputs, or of another version. */
+enum { FAZGGPO_EVENTCODE_MISSING = 1108, FAZGGPO_EVENTCODE_STRANGERS = 1110 };
+
 /* Of a match into which players come back (fazggpo_rejoin): another part of it has begun, with who is there now. */
 enum { FAZGGPO_EVENTCODE_EPOCH = 1201 };
 
@@ -147,9 +152,16 @@ typedef struct GGPOEvent {
         } desync;
         struct {
             GGPOPlayerHandle player;
-            int field; /* what is another one there: 1 how many machines, 2 who sits where, 3 the size of inputs, or the game;
-                        * at a spectator 0, as that isn't known */
+            int field; /* what is another one there: 1 how many machines, 2 who sits where, or how many words of 4 bytes an input has, 3
+                        * the size of inputs, or the game; at a spectator 0, as that isn't known */
         } mismatch;
+        struct {
+            GGPOPlayerHandle player;
+        } missing;
+        struct {
+            GGPOPlayerHandle player;
+            int count;
+        } strangers;
         struct {
             int frame; /* the first one of the part that begins */
             int came;  /* bit p - 1 is set if player p came in with it: it has left no more */
@@ -189,9 +201,9 @@ typedef struct GGPONetworkStats {
 GGPO_API GGPOErrorCode __cdecl ggpo_start_session(GGPOSession **session, GGPOSessionCallbacks *cb, const char *game,
                                                   int num_players, int input_size, unsigned short localport);
 
-/* Adds a player. The match opens by the first ggpo_idle or ggpo_add_local_input after the last of them. Spectators are added
- * before that, up to 32, each at one machine of the match, its host. Their handles count from 1000, as in GGPO. The match
- * doesn't wait for them: a spectator may come late, and is told all frames from the first one on. */
+/* Adds a player. The match opens by the first ggpo_idle or ggpo_add_local_input after the last of them, a sync test by ggpo_idle
+ * alone. Spectators are added before that, up to 32, each at one machine of the match, its host. Their handles count from 1000, as in
+ * GGPO. The match doesn't wait for them: a spectator may come late, and is told all frames from the first one on. */
 GGPO_API GGPOErrorCode __cdecl ggpo_add_player(GGPOSession *session, GGPOPlayer *player, GGPOPlayerHandle *handle);
 
 /* Begins a session without a network, whose players are all local, and which plays each `frames` frames twice and compares the
@@ -223,7 +235,8 @@ GGPO_API GGPOErrorCode __cdecl ggpo_set_frame_delay(GGPOSession *session, GGPOPl
  * and waits as long. */
 GGPO_API GGPOErrorCode __cdecl ggpo_idle(GGPOSession *session, int timeout);
 
-/* A local player's input for this frame. If it is refused, no frame is played in this turn. */
+/* A local player's input for this frame. If it is refused, no frame is played in this turn. Once all local players have given theirs,
+ * they are sent. A second one of a player, without ggpo_idle or a frame between, is refused with GGPO_ERRORCODE_INVALID_REQUEST. */
 GGPO_API GGPOErrorCode __cdecl ggpo_add_local_input(GGPOSession *session, GGPOPlayerHandle player, void *values, int size);
 
 /* All players' inputs for this frame. `disconnect_flags` may be null; bit p - 1 is set if player p has left. The same inputs are
@@ -247,9 +260,8 @@ GGPO_API GGPOErrorCode __cdecl ggpo_set_disconnect_timeout(GGPOSession *session,
 GGPO_API GGPOErrorCode __cdecl ggpo_set_disconnect_notify_start(GGPOSession *session, int timeout);
 
 /* A line for the log: the file that the environment variable FAZGROND_GGPO_LOG names, `-` for standard error. All refusals and
- * events stand there, and five events that no game is told: 1105 a machine was begun anew, 1106 one is heard and gives no inputs,
- * 1107 what one sent is against the rules, 1108 one isn't there after the disconnect timeout, 1109 this one hears too few of the
- * others, and is dropped if that lasts. */
+ * events stand there, and four events that no game is told: 1105 a machine was begun anew, 1106 one is heard and gives no inputs,
+ * 1107 what one sent is against the rules, 1109 this one hears too few of the others, and is dropped if that lasts. */
 GGPO_API void __cdecl ggpo_log(GGPOSession *session, const char *fmt, ...);
 GGPO_API void __cdecl ggpo_logv(GGPOSession *session, const char *fmt, va_list args);
 
@@ -301,6 +313,10 @@ GGPO_API GGPOErrorCode __cdecl fazggpo_get_settled_input(GGPOSession *session, i
  * back. It is refused with GGPO_ERRORCODE_NOT_SYNCHRONIZED before the first input. */
 GGPO_API GGPOErrorCode __cdecl fazggpo_get_settled_from(GGPOSession *session, int *frame);
 
+/* Has the session tell FAZGGPO_EVENTCODE_MISSING and FAZGGPO_EVENTCODE_STRANGERS too. They come while a game waits for others, which
+ * is no fault; so a game is told them only if it asks. Before the match opens, and for a match alone. */
+GGPO_API GGPOErrorCode __cdecl fazggpo_tell_missing(GGPOSession *session);
+
 /* ---- Players who come back.
  *
  * If all machines of a match have called this before it opens, a player whose program stopped can come back: the program is begun again
@@ -309,6 +325,10 @@ GGPO_API GGPOErrorCode __cdecl fazggpo_get_settled_from(GGPOSession *session, in
  * since; until then inputs are refused with GGPO_ERRORCODE_NOT_SYNCHRONIZED. So what save_game_state makes has to mean the same at
  * each machine: no pointers. Everywhere FAZGGPO_EVENTCODE_EPOCH tells who has come. The player's inputs count 2 frames later from
  * then on, whatever ggpo_set_frame_delay said.
+ *
+ * If nobody of the match is left who could give that state, the program that comes is as at its beginning: load_game_state is called
+ * with its own opening, and another match begins with those who are begun again too. Meanwhile FAZGGPO_EVENTCODE_MISSING tells who
+ * isn't there, if fazggpo_tell_missing was called.
  *
  * Such a match has no last frame, and no spectators (GGPO_ERRORCODE_UNSUPPORTED): GGPO's are given frames and no states, so one that
  * comes late would have to be given all of them from the first one on. A machine that is heard and isn't in the match has to be that
@@ -329,7 +349,7 @@ GGPO_API GGPOErrorCode __cdecl fazggpo_set_vacant(GGPOSession *session, GGPOPlay
  * A guess is a job for a helper: a thread that the game makes, with a state of its own. It fetches a job, runs it by functions of
  * its own, and fetches the next:
  *
- *     while (!is_over) {
+ *     while (!atomic_load(&is_over)) {
  *         FazggpoJob *job = fazggpo_fetch_job(session, 5);
  *         if (job != NULL)
  *             fazggpo_run_job(job, &helper);

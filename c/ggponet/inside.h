@@ -33,6 +33,7 @@ enum {
     MOST_SYNC_FRAMES = 64, /* of a sync test */
     SENDER_AT = 12,        /* where a packet has its sender's number */
     ROWS_BEFORE = 1024,    /* rows that are remembered of epochs that are over */
+    EVENTS = 64,           /* that wait to be told, as many as of a peer */
     HOST = 0,              /* a spectator's only machine */
     HOST_HANDLE = 0,       /* GGPO's numbers for the two ends of a spectator's line */
     SPECTATOR_HANDLE = 1000
@@ -125,16 +126,23 @@ struct GGPOSession {
     uint64_t digest;
     uint32_t silent_after;
     uint32_t notify_after;
+    bool tells_missing;
     int me;       /* which machine this is, in this epoch of the match .. */
     int place;    /* .. and in its first one: so addresses are numbered */
     int machines; /* how many places there are */
+    fazgrond_event events[EVENTS]; /* that the game is told by the next ggpo_idle */
+    int event_count;
     int place_of[MACHINES];
     machine machine[MACHINES + GGPO_MAX_SPECTATORS]; /* by places; the spectators come after all machines */
 
     /* A match into which players come back. */
     bool can_rejoin;
     bool is_coming;  /* this machine follows the match, and isn't in it yet */
+    bool has_no_host; /* and nobody plays it who is heard, .. */
+    bool is_alone;    /* .. which the game was told */
+    uint32_t came_in_at; /* when it came in */
     bool is_at_seam; /* the next epoch has begun, and the state at its first frame isn't saved yet */
+    bool is_fewer;   /* somebody has left since it was last asked whether this epoch is over */
     int base;   /* how many frames of the match came before this epoch */
     settled_row rows_before[ROWS_BEFORE]; /* the last settled rows, each at the place of its frame */
     int remembered; /* so many frames of the match have had theirs there, .. */
@@ -163,7 +171,7 @@ struct GGPOSession {
 
     /* The row that the game is given. */
     fazgrond_row row;
-    bool is_turn_begun; /* a local player's input was taken since ggpo_idle or a frame: others' are for the same frame */
+    uint32_t given; /* a bit for each local player whose input was taken since ggpo_idle or a frame: others' are for the same frame */
     bool is_row_given; /* at this frame, and the game hasn't gone on from it */
     bool in_rollback;
     bool is_advanced;
@@ -279,6 +287,10 @@ GGPOErrorCode ggponet_read_address_of(GGPOSession *session, const GGPOPlayer *ad
 
 /* Opens the match, if all players are there and it isn't open. */
 GGPOErrorCode ggponet_open_match(GGPOSession *session);
+/* Opens a match into which players come back as if the program were begun anew. */
+GGPOErrorCode ggponet_open_anew(GGPOSession *session);
+/* Whether nobody plays this machine's players as the match begins. */
+bool ggponet_comes_later(const GGPOSession *session);
 /* Opens a session with these settings, and its peer in this epoch of the match. */
 GGPOErrorCode ggponet_open_lasting(GGPOSession *session, const fazgrond_settings *settings);
 void ggponet_close_match(GGPOSession *session);
@@ -336,6 +348,10 @@ void ggponet_close_lines(GGPOSession *session);
 
 /* ---- events.c */
 
+/* Takes the peer's events, which wait until the game is told. */
+void ggponet_take_events(GGPOSession *session);
+/* An event waits until the game is told, as those of the peer do. */
+void ggponet_note_event(GGPOSession *session, const fazgrond_event *event);
 void ggponet_tell_of_match(GGPOSession *session);
 /* In how many milliseconds who is silent is gone, as GGPO has it: the most of them if it never is. */
 int ggponet_disconnect_in(const GGPOSession *session, uint32_t time);

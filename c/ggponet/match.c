@@ -38,6 +38,17 @@ static void place_players(GGPOSession *session) {
         session->place_of[at] = at;
 }
 
+/* A remote player whose address is this machine's, with its port; 0 if there is none. On a wire addresses are names. */
+static int player_at_own_address(const GGPOSession *session) {
+    for (int at = 0; at < session->players && session->has_port; at++) {
+        const player *of = &session->player[at];
+        if (of->type == GGPO_PLAYERTYPE_REMOTE && ntohl(of->address.sin_addr.s_addr) >> 24 == 127
+            && ntohs(of->address.sin_port) == session->port)
+            return at + 1;
+    }
+    return 0;
+}
+
 /* Of a vacant player nobody is told that it has left. False: others of its machine aren't vacant. */
 static bool take_vacant(GGPOSession *session) {
     bool are_alike = true;
@@ -124,7 +135,7 @@ GGPOErrorCode ggponet_open_lasting(GGPOSession *session, const fazgrond_settings
 static GGPOErrorCode open_first_epoch(GGPOSession *session) {
     fazgrond_settings settings = the_settings(session);
     fazgrond_match match = the_match(session);
-    bool comes_later = session->player[session->machine[session->me].handle - 1].is_vacant;
+    bool comes_later = ggponet_comes_later(session);
     session->epoch = fazgrond_epoch_for(&match, &settings);
     for (int at = 0; at < ggponet_all_words(session); at++)
         if (session->player[at / session->words].is_vacant)
@@ -156,6 +167,20 @@ static GGPOErrorCode open_first_epoch(GGPOSession *session) {
 }
 #endif
 
+bool ggponet_comes_later(const GGPOSession *session) {
+    return session->player[session->machine[session->place].handle - 1].is_vacant;
+}
+
+GGPOErrorCode ggponet_open_anew(GGPOSession *session) {
+    close_both(session);
+    ggponet_close_seats(session);
+    place_players(session);
+    (void)take_vacant(session);
+    session->base = session->came_from = session->remembered = 0;
+    session->is_coming = session->has_no_host = false;
+    return open_first_epoch(session) == GGPO_OK ? GGPO_OK : ggponet_broken(session, "the match can't be opened anew");
+}
+
 /* Opens the session and its peer. */
 static GGPOErrorCode open_both(GGPOSession *session) {
     if (session->can_rejoin)
@@ -178,6 +203,9 @@ GGPOErrorCode ggponet_open_match(GGPOSession *session) {
         return ggponet_refuse(session, GGPO_ERRORCODE_INVALID_REQUEST, "no player is local");
     if (session->machines < 2)
         return ggponet_refuse(session, GGPO_ERRORCODE_UNSUPPORTED, "all players are local, so that there is no match");
+    int own = player_at_own_address(session);
+    if (own > 0)
+        return ggponet_refuse(session, GGPO_ERRORCODE_INVALID_REQUEST, "player %d has this machine's own address", own);
     if (!take_vacant(session))
         return ggponet_refuse(session, GGPO_ERRORCODE_INVALID_REQUEST, "of one machine some players are vacant, and some aren't");
     GGPOErrorCode code = ggponet_take_pairs(session);
@@ -195,6 +223,7 @@ GGPOErrorCode ggponet_poll(GGPOSession *session) {
     /* A player who can't leave for want of memory is tried again by the next poll. */
     if (fazgrond_peer_poll(&session->peer, &session->rollback, ggponet_millis(session)) == FAZGROND_OTHER_SESSION)
         return ggponet_broken(session, "the match's session was told of others past its peer");
+    ggponet_take_events(session);
     return GGPO_OK;
 }
 

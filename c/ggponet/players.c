@@ -32,6 +32,8 @@ GGPOErrorCode ggpo_add_player(GGPOSession *session, GGPOPlayer *added, GGPOPlaye
     if (added->player_num < 1 || added->player_num > session->players)
         return ggponet_refuse(session, GGPO_ERRORCODE_PLAYER_OUT_OF_RANGE, "player %d of %d", added->player_num,
                               session->players);
+    if (added->type != GGPO_PLAYERTYPE_LOCAL && added->type != GGPO_PLAYERTYPE_REMOTE)
+        return ggponet_refuse(session, GGPO_ERRORCODE_INVALID_REQUEST, "%d is no type of a player", (int)added->type);
     player *place = &session->player[added->player_num - 1];
     if (session->is_open || place->is_there)
         return ggponet_refuse(session, GGPO_ERRORCODE_INVALID_REQUEST, "player %d is there already", added->player_num);
@@ -80,6 +82,18 @@ GGPOErrorCode ggpo_set_disconnect_timeout(GGPOSession *session, int timeout) {
 
 GGPOErrorCode ggpo_set_disconnect_notify_start(GGPOSession *session, int timeout) {
     return set_silence(session, session != NULL ? &session->notify_after : NULL, timeout, "when a silence is told");
+}
+
+GGPOErrorCode fazggpo_tell_missing(GGPOSession *session) {
+    GGPOErrorCode code = ggponet_can_call(session, "fazggpo_tell_missing");
+    if (code != GGPO_OK)
+        return code;
+    if (session->is_spectating)
+        return ggponet_only_watches(session, "fazggpo_tell_missing");
+    if (session->is_open || session->sync_frames != 0)
+        return ggponet_is_too_late(session, "that a missing machine is told");
+    session->tells_missing = true;
+    return GGPO_OK;
 }
 
 GGPOErrorCode fazggpo_set_match(GGPOSession *session, uint64_t number) {

@@ -1,7 +1,11 @@
 /* Players who come back into a match: seats for them beside a session that plays, and a session that comes in. */
 #include "inside.h"
 
-enum { SURELY = 500 /* milliseconds that a match was running elsewhere, and not here, before this machine comes in */, MOST_STEPS = 30 };
+enum {
+    SURELY = 500, /* milliseconds that a match was running elsewhere, and not here, before this machine comes in */
+    IN_VAIN = 3000, /* and since it came in without that the match runs here */
+    MOST_STEPS = 30
+};
 
 GGPOErrorCode fazggpo_rejoin(GGPOSession *session) {
     GGPOErrorCode code = ggponet_can_call(session, "fazggpo_rejoin");
@@ -139,20 +143,35 @@ static void remember_rows(GGPOSession *session) {
         remember_row(session, &row);
 }
 
-/* The next epoch, if this one is over. It is to the game as a rollback. */
-GGPOErrorCode ggponet_go_on(GGPOSession *session) {
+/* Whether this epoch is over, as fazgrond_peer_go_on says. All rows of it are played before, so that they are told afterwards; but if
+ * somebody has left, only once it isn't over: rows past the end may be known then. */
+static GGPOErrorCode end_epoch(GGPOSession *session, int32_t *answer) {
     uint32_t frames = 0;
-    bool is_stepped = false;
-    if (!session->can_rejoin || !session->has_begun || session->is_row_given)
+    *answer = FAZGROND_NOTHING;
+    faz_hosting_answer(&session->hosting);
+    remember_rows(session);
+    if (session->is_fewer)
+        *answer = fazgrond_peer_go_on(&session->peer, &session->rollback, &frames);
+    session->is_fewer = false;
+    if (*answer != FAZGROND_NOTHING)
         return GGPO_OK;
-    GGPOErrorCode code = ggponet_roll_back(session); /* so that all rows of this epoch are settled, and told afterwards */
+    GGPOErrorCode code = ggponet_roll_back(session);
     if (code != GGPO_OK)
         return code;
     remember_rows(session);
-    faz_hosting_answer(&session->hosting);
-    int32_t answer = fazgrond_peer_go_on(&session->peer, &session->rollback, &frames);
-    if (answer == FAZGROND_NOTHING)
+    *answer = fazgrond_peer_go_on(&session->peer, &session->rollback, &frames);
+    return GGPO_OK;
+}
+
+/* The next epoch, if this one is over. It is to the game as a rollback. */
+GGPOErrorCode ggponet_go_on(GGPOSession *session) {
+    int32_t answer;
+    bool is_stepped = false;
+    if (!session->can_rejoin || !session->has_begun || session->is_row_given)
         return GGPO_OK;
+    GGPOErrorCode code = end_epoch(session, &answer);
+    if (code != GGPO_OK || answer == FAZGROND_NOTHING)
+        return code;
     if (answer == FAZGROND_OK)
         answer = fazgrond_peer_epoch(&session->peer, &session->epoch);
     if (answer != FAZGROND_OK)
@@ -203,6 +222,7 @@ static GGPOErrorCode come_in(GGPOSession *session, const faz_next *next) {
     session->me = (int)next->me;
     session->hosting.me = next->me;
     session->is_coming = false;
+    session->came_in_at = ggponet_millis(session);
     place_machines(session);
     fazgrond_settings settings = settings_in(session, next->me);
     GGPOErrorCode code = ggponet_open_lasting(session, &settings);
@@ -211,7 +231,10 @@ static GGPOErrorCode come_in(GGPOSession *session, const faz_next *next) {
     return code;
 }
 
+/* The opening is kept, should nobody be left of the match that has this state. */
 static GGPOErrorCode load(GGPOSession *session, const faz_next *next) {
+    if (!ggponet_has_slot(session, 0) || (!session->slots[0].taken && !ggponet_save(session, &session->slots[0])))
+        return ggponet_broken(session, "save_game_state failed");
     unsigned char *buffer = malloc(next->length);
     if (buffer == NULL)
         return ggponet_broken(session, "no memory for the match's state");
@@ -248,9 +271,38 @@ static bool is_left_out(GGPOSession *session) {
         && fazgrond_peer_is_running(&session->peer, &is_running) == FAZGROND_OK && is_running == 0;
 }
 
+/* Whether nobody of the match is there any more into which this machine comes, or has come without being heard in it. */
+static bool is_in_vain(GGPOSession *session) {
+    uint32_t is_running = 0;
+    if (session->is_coming)
+        return session->has_no_host && !ggponet_comes_later(session);
+    return session->comer.is_in && ggponet_millis(session) - session->came_in_at > IN_VAIN
+        && fazgrond_peer_is_running(&session->peer, &is_running) == FAZGROND_OK && is_running == 0;
+}
+
+/* Another match may begin then, with all who are begun anew; and if this one runs somewhere after all, this machine asks to come again. */
+static GGPOErrorCode begin_anew(GGPOSession *session) {
+    ggpo_log(session, "nobody is heard in the match that ran: this machine begins anew");
+    if (session->slot_count > 0 && session->slots[0].taken && !ggponet_load(session, &session->slots[0]))
+        return ggponet_broken(session, "load_game_state failed");
+    return ggponet_open_anew(session);
+}
+
+/* Who comes later has no peer that would tell it that the others aren't there. */
+static void note_if_alone(GGPOSession *session) {
+    bool was_alone = session->is_alone;
+    session->is_alone = session->is_coming && session->has_no_host && session->silent_after > 0
+        && ggponet_millis(session) - session->comer.moved_at >= session->silent_after;
+    for (int at = 0; at < session->machines && session->is_alone && !was_alone; at++)
+        if (at != session->place)
+            ggponet_note_event(session, &(fazgrond_event){ .code = FAZGROND_MISSING, .machine = (uint32_t)at });
+}
+
 void ggponet_ask_to_come(GGPOSession *session) {
-    if (session->can_rejoin && !session->has_begun && !session->comer.is_in)
-        faz_comer_turn(&session->comer, ggponet_millis(session));
+    if (!session->can_rejoin || session->has_begun || session->comer.is_in)
+        return;
+    session->has_no_host = faz_comer_turn(&session->comer, ggponet_millis(session)) == FAZGROND_NOTHING;
+    note_if_alone(session);
 }
 
 void ggponet_begin_to_come(GGPOSession *session) {
@@ -262,8 +314,10 @@ void ggponet_begin_to_come(GGPOSession *session) {
 }
 
 GGPOErrorCode ggponet_come(GGPOSession *session) {
-    if (!session->can_rejoin || session->has_begun || session->comer.is_in)
+    if (!session->can_rejoin || session->has_begun)
         return GGPO_OK;
+    if (is_in_vain(session))
+        return begin_anew(session);
     if (is_left_out(session))
         ggponet_begin_to_come(session);
     return session->is_coming ? take_what_came(session) : GGPO_OK;

@@ -7,13 +7,14 @@
 #include <string.h>
 
 enum {
-    ASKER = 1,      /* as which machine it names itself in what it asks: each line has a number of its own */
-    PIECES = 8,     /* that are asked for in a turn */
-    RARELY = 8,     /* of so many turns, in one the table is asked for, if nothing is to come soon */
-    NEAR = 120,     /* rows that are stepped sooner than another state comes .. */
-    FEW = 8,        /* .. and those that come in a turn or two */
-    STANDS = 500,   /* milliseconds without a row after which the state of the next epoch is taken: that isn't told any more .. */
-    PATIENCE = 2000 /* .. and without anything new, after which another host is followed */
+    ASKER = 1,       /* as which machine it names itself in what it asks: each line has a number of its own */
+    PIECES = 8,      /* that are asked for in a turn */
+    RARELY = 8,      /* of so many turns, in one the table is asked for, if nothing is to come soon */
+    NEAR = 120,      /* rows that are stepped sooner than another state comes .. */
+    FEW = 8,         /* .. and those that come in a turn or two */
+    STANDS = 500,    /* milliseconds without a row after which the state of the next epoch is taken: that isn't told any more .. */
+    PATIENCE = 2000, /* .. and without anything new, after which another host is followed */
+    UNHOSTED = 3000  /* and without a host, after which that is said */
 };
 
 void faz_comer_begin(faz_comer *self) { self->host = self->avoided = FAZGROND_NO_MACHINE; }
@@ -60,8 +61,10 @@ static bool is_near(const faz_comer *self, const faz_table *next) {
 static void hear_table(faz_comer *self, uint32_t machine, const faz_table *table) {
     self->told_at = self->is_told ? self->told_at : self->now;
     self->is_told = true;
-    if (self->only_asks)
+    if (self->only_asks) {
+        self->moved_at = self->now;
         return;
+    }
     if (self->host == FAZGROND_NO_MACHINE) {
         bool is_only = (self->machines & ~(1u << self->avoided % 32)) == 0;
         if (machine != self->avoided || is_only || self->now - self->moved_at > PATIENCE)
@@ -179,9 +182,9 @@ static bool is_watching(faz_comer *self, uint32_t now) {
         && state.is_silent == 0;
 }
 
-void faz_comer_turn(faz_comer *self, uint32_t now) {
+int32_t faz_comer_turn(faz_comer *self, uint32_t now) {
     if (self->is_in)
-        return;
+        return FAZGROND_OK;
     self->moved_at = self->has_clock && !is_watching(self, now) ? self->moved_at : now;
     self->has_clock = true;
     self->now = now;
@@ -196,6 +199,7 @@ void faz_comer_turn(faz_comer *self, uint32_t now) {
             if ((self->machines >> machine & 1) != 0)
                 ask_for(self, machine, FAZ_TABLE_STATE, 0);
     self->turns++;
+    return self->host == FAZGROND_NO_MACHINE && now - self->moved_at >= UNHOSTED ? FAZGROND_NOTHING : FAZGROND_OK;
 }
 
 /* Which machine this one is in an epoch, if it came in with it. */

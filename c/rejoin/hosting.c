@@ -87,29 +87,50 @@ static void answer_ask(faz_hosting *self, uint32_t to, const uint8_t *bytes, siz
     }
 }
 
-/* A line is opened once something comes that may be for it, and anew if who was at the other end is silent. */
-static void hear_of_line(faz_hosting *self, faz_seat *seat, const uint8_t *bytes, size_t length, uint32_t now) {
+/* Whether both ends of a line have heard each other, and nobody has said bye. */
+static bool is_followed(fazgrond_line *line, uint32_t now) {
+    fazgrond_line_state state = { 0 };
+    return fazgrond_line_look(line, now, &state) == FAZGROND_OK && state.is_playing != 0 && state.has_ended == 0;
+}
+
+static void send_on_line(faz_hosting *self, uint32_t to, uint32_t now) {
+    uint8_t bytes[FAZGROND_DATAGRAM];
+    size_t length;
+    if (fazgrond_line_send(&self->seat[to].line, self->session, now, bytes, sizeof bytes, &length) == FAZGROND_OK)
+        self->send(self->of, to, bytes, length);
+}
+
+/* A line is opened by what its other end has sent, and anew if that is silent. Until it is followed each datagram has one answer: so
+ * what is nobody's opens none, and what was recorded keeps none going. */
+static void hear_of_line(faz_hosting *self, uint32_t to, const uint8_t *bytes, size_t length, uint32_t now) {
+    faz_seat *seat = &self->seat[to];
     fazgrond_line_state state = { 0 };
     if (fazgrond_line_receive(&seat->before, bytes, length, now) == FAZGROND_OK)
         return;
     if (fazgrond_line_look(&seat->line, now, &state) == FAZGROND_OK && (state.is_silent != 0 || state.has_ended != 0))
         fazgrond_line_close(&seat->line);
-    if (fazgrond_line_look(&seat->line, now, &state) == FAZGROND_IS_CLOSED) {
+    bool is_new = fazgrond_line_look(&seat->line, now, &state) == FAZGROND_IS_CLOSED;
+    if (is_new) {
         fazgrond_line_settings settings = faz_line_in(&self->table.epoch, seat->number, self->digest, faz_draw(&self->random));
         seat->is_heard = seat->is_late = false;
         (void)fazgrond_line_open(&seat->line, &settings);
     }
-    (void)fazgrond_line_receive(&seat->line, bytes, length, now);
+    bool is_taken = fazgrond_line_receive(&seat->line, bytes, length, now) == FAZGROND_OK;
+    if (is_taken && !is_followed(&seat->line, now))
+        send_on_line(self, to, now);
+    else if (!is_taken && is_new)
+        fazgrond_line_close(&seat->line);
 }
 
 void faz_hosting_hear(faz_hosting *self, uint32_t to, const uint8_t *bytes, size_t length, uint32_t now) {
     uint8_t machine;
     if (to >= FAZ_SEATS || !self->seat[to].is_taken || !self->has_begun)
         return;
-    if (fazgrond_state_sender(bytes, length, &machine) == FAZGROND_OK)
+    bool is_ask = fazgrond_state_sender(bytes, length, &machine) == FAZGROND_OK;
+    if (is_ask && self->is_counted) /* else the match doesn't run here yet, and nobody could come into it */
         answer_ask(self, to, bytes, length);
-    else
-        hear_of_line(self, &self->seat[to], bytes, length, now);
+    else if (!is_ask)
+        hear_of_line(self, to, bytes, length, now);
 }
 
 /* Whether somebody sits somewhere with this ticket, and is to own these players. */
@@ -208,10 +229,12 @@ static void tell(faz_hosting *self, uint32_t to, uint32_t now) {
     int times = self->is_told ? 1 : TOLD_AT_ONCE;
     while (times-- > 0 && fazgrond_line_send_before(&seat->before, self->peer, now, bytes, sizeof bytes, &length) == FAZGROND_OK)
         self->send(self->of, to, bytes, length);
-    if (fazgrond_line_send(&seat->line, self->session, now, bytes, sizeof bytes, &length) == FAZGROND_OK)
-        self->send(self->of, to, bytes, length);
+    if (is_followed(&seat->line, now))
+        send_on_line(self, to, now);
     if (fazgrond_line_look(&seat->before, now, &state) == FAZGROND_OK && (state.is_silent != 0 || state.has_ended != 0))
         fazgrond_line_close(&seat->before);
+    if (fazgrond_line_look(&seat->line, now, &state) == FAZGROND_OK && state.is_silent != 0)
+        fazgrond_line_close(&seat->line);
 }
 
 /* Who has come in, and isn't heard for long, is gone again. */

@@ -18,7 +18,8 @@
 extern "C" {
 #endif
 
-/* Sends a datagram to the other end of a line: `to` is a seat, or a machine. */
+/* Sends a datagram to the other end of a line: `to` is a seat of the hosting, or a place in the comer's `numbers`. Both stay whose they are,
+ * where a player who comes back may be another machine than before: so send what the peer has by the player whose owner it names. */
 typedef void faz_send(void *of, uint32_t to, const uint8_t *bytes, size_t length);
 
 /* How an epoch began, as a host tells it. */
@@ -79,6 +80,7 @@ void faz_hosting_turn(faz_hosting *self, uint32_t now);
 /* Says to all who follow this machine that it leaves. A datagram may be lost: call it a few times. */
 void faz_hosting_bye(faz_hosting *self);
 
+/* Nobody is answered any more: at the end, and once FAZGROND_DROPPED is told, as nobody could follow this machine then. */
 void faz_hosting_close(faz_hosting *self);
 
 /* ---- At who comes. */
@@ -126,8 +128,9 @@ void faz_comer_begin(faz_comer *self);
 /* A datagram came from a machine's address. */
 void faz_comer_hear(faz_comer *self, uint32_t machine, const uint8_t *bytes, size_t length, uint32_t now);
 
-/* Once a turn, before faz_comer_next: sends what is to be asked. */
-void faz_comer_turn(faz_comer *self, uint32_t now);
+/* Once a turn, before faz_comer_next: sends what is to be asked. FAZGROND_NOTHING: for three seconds there has been no host to follow, so
+ * nobody plays the match any more, or nobody is heard. It goes on asking. Whoever is in has its peer's FAZGROND_MISSING for that. */
+int32_t faz_comer_turn(faz_comer *self, uint32_t now);
 
 /* What the game is to do next. Ask until it is FAZ_NOTHING, or as often as the game can step in a turn. */
 faz_next faz_comer_next(faz_comer *self);

@@ -193,6 +193,7 @@ static void refused_watchers(void) {
     MUST(ggpo_set_disconnect_timeout(game.session, 1) == GGPO_ERRORCODE_UNSUPPORTED);
     MUST(fazggpo_set_spectators(game.session, 1) == GGPO_ERRORCODE_UNSUPPORTED);
     MUST(fazggpo_rejoin(game.session) == GGPO_ERRORCODE_UNSUPPORTED);
+    MUST(fazggpo_tell_missing(game.session) == GGPO_ERRORCODE_UNSUPPORTED);
     MUST(fazggpo_get_settled_input(game.session, 0, inputs, sizeof inputs, NULL) == GGPO_ERRORCODE_INVALID_REQUEST);
     MUST(fazggpo_get_settled_from(game.session, &frame) == GGPO_ERRORCODE_NOT_SYNCHRONIZED);
     MUST(fazggpo_get_watched(game.session, 1000, &frame) == GGPO_ERRORCODE_INVALID_PLAYER_HANDLE);
@@ -237,12 +238,13 @@ static void late_spectator(void) {
 /* Players come back into a match that isn't open yet, and has no spectators. */
 static void refused_rejoins(void) {
     int inputs[2], frame;
-    MUST(fazggpo_rejoin(NULL) == GGPO_ERRORCODE_INVALID_SESSION);
+    MUST(fazggpo_rejoin(NULL) == GGPO_ERRORCODE_INVALID_SESSION && fazggpo_tell_missing(NULL) == GGPO_ERRORCODE_INVALID_SESSION);
     MUST(ggpo_start_session(&game.session, &calls, name, 2, sizeof(int), 0) == GGPO_OK);
     MUST(fazggpo_rejoin(game.session) == GGPO_OK && fazggpo_rejoin(game.session) == GGPO_OK);
     MUST(add(GGPO_PLAYERTYPE_LOCAL, 1, NULL) == GGPO_OK && add(GGPO_PLAYERTYPE_REMOTE, 2, "127.0.0.1") == GGPO_OK);
     MUST(add(GGPO_PLAYERTYPE_SPECTATOR, 3, "127.0.0.1") == GGPO_ERRORCODE_UNSUPPORTED);
     MUST(ggpo_idle(game.session, 0) == GGPO_OK && fazggpo_rejoin(game.session) == GGPO_ERRORCODE_UNSUPPORTED);
+    MUST(fazggpo_tell_missing(game.session) == GGPO_ERRORCODE_UNSUPPORTED);
     MUST(fazggpo_get_settled_input(game.session, 0, inputs, sizeof inputs, NULL) == GGPO_ERRORCODE_INVALID_REQUEST);
     MUST(fazggpo_get_settled_input(game.session, -1, inputs, sizeof inputs, NULL) == GGPO_ERRORCODE_INVALID_REQUEST);
     MUST(fazggpo_get_settled_input(game.session, 0, inputs, sizeof inputs - 1, NULL) == GGPO_ERRORCODE_INVALID_REQUEST);
@@ -327,6 +329,8 @@ static void refused_players(void) {
     MUST(ggpo_set_disconnect_timeout(NULL, 1) == GGPO_ERRORCODE_INVALID_SESSION);
     MUST(add(GGPO_PLAYERTYPE_LOCAL, 3, NULL) == GGPO_ERRORCODE_PLAYER_OUT_OF_RANGE);
     MUST(add(GGPO_PLAYERTYPE_REMOTE, 2, "localhost") == GGPO_ERRORCODE_INVALID_REQUEST);
+    MUST(add((GGPOPlayerType)7, 1, "127.0.0.1") == GGPO_ERRORCODE_INVALID_REQUEST);
+    MUST(strcmp(ggpo_last_error(game.session), "7 is no type of a player") == 0);
     MUST(add(GGPO_PLAYERTYPE_LOCAL, 1, NULL) == GGPO_OK);
     MUST(add(GGPO_PLAYERTYPE_LOCAL, 1, NULL) == GGPO_ERRORCODE_INVALID_REQUEST);
     MUST(ggpo_idle(game.session, 0) == GGPO_OK);

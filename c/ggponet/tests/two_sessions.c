@@ -1,8 +1,8 @@
 /* Two sessions in one process. First their inputs come at the worst moment, between a game's own step and its
  * ggpo_advance_frame: both must come to the state of a plain run all the same. Then one of them plays by other rules, and then
  * one means another match: both must be told. Then one gives no inputs, so that the other has to wait: its log must stand too,
- * and ggpo_idle show what comes. At last they play again and again on the same ports, without a word of who arranges it. It prints
- * nothing if all is right. two_sessions PORT */
+ * and ggpo_idle show what comes. Then they play again and again on the same ports, without a word of who arranges it. At last what no
+ * match can have is refused. It prints nothing if all is right. two_sessions PORT */
 #include <fazgrond.h>
 #include <ggponet.h>
 #include <stdio.h>
@@ -263,6 +263,44 @@ static void again_and_again(int port) {
     end();
 }
 
+/* A player gives one input in a turn: of two the first one counts. */
+static void input_twice(int port) {
+    unsigned char input = 1, other = 2, inputs[2];
+    for (int me = 0; me < 2; me++)
+        begin(me, port, 1);
+    for (int turns = 0; games[0].now.frame < 50; turns++)
+        turn(turns % 2, false);
+    do {
+        turn(1, false);
+        game = &games[0];
+        MUST(ggpo_idle(game->session, 20) == GGPO_OK);
+    } while (ggpo_add_local_input(game->session, 1, &input, 1) != GGPO_OK);
+    MUST(ggpo_add_local_input(game->session, 1, &other, 1) == GGPO_ERRORCODE_INVALID_REQUEST);
+    MUST(strcmp(ggpo_last_error(game->session), "player 1 gave an input for this frame already") == 0);
+    MUST(ggpo_synchronize_input(game->session, inputs, sizeof inputs, NULL) == GGPO_OK && inputs[0] == input);
+    end();
+}
+
+/* Nobody else can be at the address of this machine. */
+static void own_address(int port) {
+    GGPOPlayerHandle handle;
+    GGPOPlayer added = { .size = sizeof added, .type = GGPO_PLAYERTYPE_REMOTE, .player_num = 3 };
+    GGPOSessionCallbacks calls = { .save_game_state = on_save, .load_game_state = on_load, .free_buffer = on_free,
+                                   .advance_frame = on_advance, .on_event = on_event };
+    game = &games[0];
+    MUST(ggpo_start_session(&game->session, &calls, "own address", 3, 1, (unsigned short)port) == GGPO_OK);
+    for (int player = 3; player >= 1; player--) {
+        added.player_num = player;
+        added.type = player == 1 ? GGPO_PLAYERTYPE_LOCAL : GGPO_PLAYERTYPE_REMOTE;
+        memcpy(added.u.remote.ip_address, "127.0.0.1", 10);
+        added.u.remote.port = (unsigned short)(port + player % 3);
+        MUST(ggpo_add_player(game->session, &added, &handle) == GGPO_OK);
+    }
+    MUST(ggpo_idle(game->session, 0) == GGPO_ERRORCODE_INVALID_REQUEST);
+    MUST(strcmp(ggpo_last_error(game->session), "player 3 has this machine's own address") == 0);
+    MUST(ggpo_close_session(game->session) == GGPO_OK);
+}
+
 int main(int count, char **words) {
     MUST(count == 2);
     right(atoi(words[1]));
@@ -270,5 +308,7 @@ int main(int count, char **words) {
     other_match(atoi(words[1]));
     standing(atoi(words[1]));
     again_and_again(atoi(words[1]));
+    input_twice(atoi(words[1]));
+    own_address(atoi(words[1]));
     return 0;
 }
