@@ -70,6 +70,14 @@ machine_of() {
     eval "pid_$name=$!"
 }
 
+# Whether programs in the folder say how they are begun, if that is asked for.
+helps() {
+    for program; do
+        timeout 10 "$work/$program" --help > "$work/help" 2> "$work/help.err" && grep -q "^$program .*  " "$work/help" \
+            && [ ! -s "$work/help.err" ] || return 1
+    done
+}
+
 # What a machine of this name said in another check isn't found any more.
 forget() {
     : > "$work/$1.out"
@@ -84,6 +92,13 @@ ended() {
         cat "$work/$name.out" "$work/$name.err"
         return 1
     done
+}
+
+# Whether a machine of over_udp, to which no other comes, ends with a word and doesn't wait. Its command is told without ME and the rest.
+ends_alone() {
+    port=$((34000 + $$ % 1000))
+    timeout 60 "$@" 0 $port 127.0.0.1 9 > "$work/alone.out" 2> "$work/alone.err"
+    [ $? = 1 ] && [ ! -s "$work/alone.out" ] && grep "hasn't come so far\|isn't in this match" "$work/alone.err"
 }
 
 # Waits until machines are in the match, or watch it.

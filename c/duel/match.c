@@ -7,6 +7,7 @@
 #include "online.h"
 #include "options.h"
 #include "state.h"
+#include "stops.h"
 #include "window.h"
 
 #include <fazgrond.h>
@@ -41,7 +42,16 @@ static const char usage[] =
     "  --door        the broker has a door: codes are short, who joins has to be let in, and relays are the door's\n"
     "  --begin-with N    with --host and --rejoin: the match begins once N are there, and who comes later has a ship too\n";
 
-enum { TURN = 16667, PAST_LAST = 32, LINES = 6, MOST_BEHIND = 6, CATCH_UP = 8, TIMEOUT = 5000, TIMEOUT_ONLINE = 10000 };
+enum { TURN = 16667, PAST_LAST = 32, LINES = 12, WIDE = 78 /* signs of a line */, MOST_BEHIND = 6, CATCH_UP = 8, TIMEOUT = 5000, TIMEOUT_ONLINE = 10000,
+       LATE = 60000 /* milliseconds for which who was never heard is waited for once its time is over */,
+       ENDING = 90 /* turns in which the others can find a desync, too */ };
+
+/* What is told of a player: `number` counts down the seconds until `until`, if that isn't 0. */
+typedef struct telling {
+    const char *what;
+    int number;
+    uint64_t until;
+} telling;
 
 /* All that there is: GGPO's callbacks are told nothing but what they are to do. */
 static struct {
@@ -51,11 +61,17 @@ static struct {
     GGPOPlayerHandle local[DUEL_SHIPS], viewer[GGPO_MAX_SPECTATORS];
     int behind, most_behind; /* by how many frames this one is behind what it watches */
     int wait;                /* turns to wait, since this machine is ahead */
-    bool is_over;            /* the match can't go on */
+    bool is_over;            /* the match can't go on, */
+    char why[192];           /* for this reason */
+    bool has_parted;         /* there was a desync, .. */
+    int ending;              /* .. and it is over after so many turns */
+    bool is_heard[DUEL_SHIPS + 1], has_strangers;
+    uint64_t over_at;        /* then it is over, as this player is missing; 0: none is */
+    int missing;
     int again, all_again;    /* frames that were played again: in this turn, and in all */
     duel_bot bots[DUEL_SHIPS];
     char at_last[512]; /* the state at the frame of --frames */
-    char told[DUEL_SHIPS][64];
+    telling told[DUEL_SHIPS + 1]; /* of each player, and before them of the host that is watched */
     /* What the command line says. */
     long frames, lag, loss, junk, speed, delay, timeout, sync_frames, bot, match, watch, helpers;
     bool is_headless, can_rejoin;
@@ -101,19 +117,109 @@ static bool on_load(unsigned char *buffer, int length) {
 
 static void on_free(void *buffer) { free(buffer); }
 
-/* Notes a line for a player, which the window shows, or says it. What is of a viewer, or of who is watched, is said. */
-static void say(int player, const char *what, int number) {
-    if (player < 1 || player > self.players) {
-        char who[32] = "the host", text[64];
-        if (player > 0)
-            snprintf(who, sizeof who, "viewer %d", player - 999);
-        snprintf(text, sizeof text, *what != 0 ? what : " is heard again", number);
-        fprintf(stderr, "%s%s\n", who, text);
+/* Microseconds, as --speed has them. */
+static uint64_t micros(void) { return (uint64_t)clock_micros() * (uint64_t)self.speed; }
+
+/* A line on somebody: a player, a viewer from 1000 on, or at 0 the host that is watched. */
+static void line_of(int player, const telling *it, char *out, size_t room) {
+    char who[32] = "the host", text[64];
+    if (player > 0)
+        snprintf(who, sizeof who, player > self.players ? "viewer %d" : "player %d", player > self.players ? player - 999 : player);
+    snprintf(text, sizeof text, it->what, it->number);
+    snprintf(out, room, "%s%s", who, text);
+}
+
+static void print(int player, const telling *it) {
+    char line[128];
+    line_of(player, it, line, sizeof line);
+    fprintf(stderr, "%s\n", line);
+}
+
+/* Notes a line, which the window shows, or says it; if there are milliseconds, the seconds in it count down. What is of a viewer is
+ * said. */
+static void say(int player, const char *what, int milliseconds) {
+    telling it = { what, (milliseconds + 999) / 1000, milliseconds > 0 ? micros() + (uint64_t)milliseconds * 1000 : 0 };
+    if (player >= 0 && player <= self.players)
+        self.told[player] = it;
+    if (*what != 0 && (self.is_headless || player < 1 || player > self.players))
+        print(player, &it);
+}
+
+static void count_down(void) {
+    uint64_t now = micros();
+    for (int player = 0; player <= self.players; player++) {
+        telling *it = &self.told[player];
+        int left = it->until > now ? (int)((it->until - now + 999999) / 1000000) : 0;
+        if (it->until == 0 || left >= it->number || left == 0)
+            continue;
+        it->number = left;
+        if (self.is_headless && (left <= 10 || left % 10 == 0))
+            print(player, it);
+    }
+}
+
+/* The match can't go on. */
+static void end(const char *why, int number) {
+    char text[160];
+    if (self.is_over)
+        return;
+    snprintf(text, sizeof text, why, number);
+    snprintf(self.why, sizeof self.why, "the match is over: %s", text);
+    fprintf(stderr, "%s\n", self.why);
+    self.is_over = true;
+}
+
+static void say_silent(int player, int milliseconds) {
+    bool is_counted = milliseconds < INT32_MAX && player <= self.players;
+    say(player, is_counted ? " is silent: gone in %d s" : " is silent", is_counted ? milliseconds : 0);
+}
+
+/* A machine isn't there. Whoever was met by a code, or is heard, may be in a match that doesn't take this program back: it isn't waited
+ * for any longer than as long again. */
+static void say_missing(int player) {
+    bool is_late = self.online.players == 0 && !self.is_heard[player];
+    int wait = is_late ? LATE : (int)self.timeout;
+    if (self.can_rejoin)
+        return;
+    uint64_t at = micros() + (uint64_t)wait * 1000;
+    if (self.over_at != 0 && at >= self.over_at) {
+        if (player != self.missing)
+            say(player, " isn't there", 0);
         return;
     }
-    snprintf(self.told[player - 1], sizeof self.told[0], what, number);
-    if (self.is_headless && self.told[player - 1][0] != 0)
-        fprintf(stderr, "player %d%s\n", player, self.told[player - 1]);
+    self.over_at = at;
+    self.missing = player;
+    say(player, " isn't there: over in %d s", wait);
+}
+
+static void look_at_missing(void) {
+    if (self.over_at == 0 || micros() < self.over_at)
+        return;
+    end(self.has_strangers ? "player %d isn't there; datagrams came of another version, game, number of players or --match"
+        : self.is_heard[self.missing] || self.online.players > 0
+            ? "player %d isn't there. If it plays a match that this program was in before, that takes nobody back without --rejoin"
+            : "player %d hasn't come", self.missing);
+}
+
+/* It plays no more, but goes on for a while, so that the others see that the states have parted. */
+static void part(int player, int frame) {
+    if (self.has_parted)
+        return;
+    self.has_parted = true;
+    self.ending = ENDING;
+    if (player > 0)
+        say(player, " has another state", 0);
+    snprintf(self.why, sizeof self.why, "desync: the states have parted by frame %d", frame);
+    fprintf(stderr, "%s\n", self.why);
+}
+
+/* Of who leaves once the states have parted it is known why. */
+static void say_left(int player) {
+    online_left(player);
+    if (self.has_parted && player <= self.players)
+        say(player, " has left, as the states have parted", 0);
+    else
+        say(player, " has left", 0);
 }
 
 /* Another part of the match has begun. */
@@ -126,25 +232,43 @@ static void tell_epoch(int frame, int came) {
         self.is_vacant[player] = self.is_vacant[player] && (came >> player & 1) == 0;
 }
 
+static void begin(void) {
+    memset(self.told, 0, sizeof self.told);
+    self.over_at = 0;
+    fputs("the match begins\n", stderr);
+}
+
+static void say_heard(int player) { say(player, player >= 1 && player <= self.players ? "" : " is heard again", 0); }
+
+/* Whoever sends them is there, and means another match. */
+static void say_strangers(int player, int count) {
+    fprintf(stderr, "%d datagrams came that aren't of this match: the others have another version, game, number of players or --match\n",
+            count);
+    self.is_heard[player] = self.has_strangers = true;
+    say_missing(player);
+}
+
 static bool on_event(GGPOEvent *event) {
     switch (event->code) {
-    case GGPO_EVENTCODE_CONNECTED_TO_PEER: say(event->u.connected.player, ": there", 0); break;
+    case GGPO_EVENTCODE_CONNECTED_TO_PEER:
+        if (event->u.connected.player <= self.players)
+            self.is_heard[event->u.connected.player] = true;
+        say(event->u.connected.player, ": there", 0);
+        break;
     case GGPO_EVENTCODE_SYNCHRONIZED_WITH_PEER: say(event->u.synchronized.player, ": ready", 0); break;
-    case GGPO_EVENTCODE_RUNNING: memset(self.told, 0, sizeof self.told), fputs("the match begins\n", stderr); break;
-    case GGPO_EVENTCODE_DISCONNECTED_FROM_PEER: say(event->u.disconnected.player, " has left", 0); break;
+    case GGPO_EVENTCODE_RUNNING: begin(); break;
+    case GGPO_EVENTCODE_DISCONNECTED_FROM_PEER: say_left(event->u.disconnected.player); break;
     case GGPO_EVENTCODE_TIMESYNC: self.wait = event->u.timesync.frames_ahead; break;
     case GGPO_EVENTCODE_CONNECTION_INTERRUPTED:
-        say(event->u.connection_interrupted.player, " is silent: gone in %d ms",
-            event->u.connection_interrupted.disconnect_timeout);
+        say_silent(event->u.connection_interrupted.player, event->u.connection_interrupted.disconnect_timeout);
         break;
-    case GGPO_EVENTCODE_CONNECTION_RESUMED: say(event->u.connection_resumed.player, "", 0); break;
+    case GGPO_EVENTCODE_CONNECTION_RESUMED: say_heard(event->u.connection_resumed.player); break;
     case FAZGGPO_EVENTCODE_EPOCH: tell_epoch(event->u.epoch.frame, event->u.epoch.came); break;
-    case FAZGGPO_EVENTCODE_DESYNC:
-    case FAZGGPO_EVENTCODE_MISMATCH:
-    case FAZGGPO_EVENTCODE_DROPPED:
-        fprintf(stderr, "the match is over: event %d\n", event->code);
-        self.is_over = true;
-        break;
+    case FAZGGPO_EVENTCODE_DESYNC: part(event->u.desync.player, event->u.desync.frame); break;
+    case FAZGGPO_EVENTCODE_MISMATCH: end("player %d means another match", event->u.mismatch.player); break;
+    case FAZGGPO_EVENTCODE_DROPPED: end("the others regard this machine as gone, or too few are heard", 0); break;
+    case FAZGGPO_EVENTCODE_MISSING: say_missing(event->u.missing.player); break;
+    case FAZGGPO_EVENTCODE_STRANGERS: say_strangers(event->u.strangers.player, event->u.strangers.count); break;
     default: break;
     }
     return true;
@@ -189,14 +313,27 @@ static bool is_behind(void) {
     return self.behind > MOST_BEHIND && self.now.frame != self.frames;
 }
 
+/* A text in as many lines as it takes: how many there are then. */
+static int wrap(const char *text, char lines[][128], int count) {
+    while (*text != 0 && count < LINES) {
+        int length = (int)strlen(text) < WIDE ? (int)strlen(text) : WIDE;
+        while (text[length] != 0 && text[length] != ' ' && length > 1)
+            length--;
+        snprintf(lines[count++], sizeof lines[0], "%.*s", length, text);
+        text += length + (text[length] == ' ');
+    }
+    return count;
+}
+
 static void draw(void) {
     char lines[LINES][128];
     const char *shown[LINES];
     int count = 0;
-    for (int player = 1; player <= self.players; player++) {
+    for (int player = 0; player <= self.players; player++) {
+        const telling *it = &self.told[player];
         GGPONetworkStats stats;
-        if (self.told[player - 1][0] != 0)
-            snprintf(lines[count++], sizeof lines[0], "player %d%s", player, self.told[player - 1]);
+        if (it->what != NULL && *it->what != 0)
+            line_of(player, it, lines[count++], sizeof lines[0]);
         else if (GGPO_SUCCEEDED(ggpo_get_network_stats(self.session, player, &stats)) && stats.network.ping > 0)
             snprintf(lines[count++], sizeof lines[0], "to player %d: ping %d ms, ahead %d", player, stats.network.ping,
                      -stats.timesync.local_frames_behind);
@@ -205,13 +342,12 @@ static void draw(void) {
         snprintf(lines[count++], sizeof lines[0], "frame %d, behind %d", self.now.frame, self.behind);
     else
         snprintf(lines[count++], sizeof lines[0], "frame %d, again %d, in all %d", self.now.frame, self.again, self.all_again);
+    count = wrap(self.why, lines, count);
+    count = wrap(online_question(), lines, count);
     for (int at = 0; at < count; at++)
         shown[at] = lines[at];
     window_draw(&self.now.field, self.local[0], shown, count);
 }
-
-/* Microseconds, as --speed has them. */
-static uint64_t micros(void) { return (uint64_t)clock_micros() * (uint64_t)self.speed; }
 
 /* Whether the frame of --frames is settled, here and elsewhere: who sent inputs of a much later frame has all of this one, and
  * viewers say how many they have. Who watches has it once it is played. */
@@ -254,15 +390,38 @@ static bool play_settled(void) {
     return strcmp(straight, shown) == 0;
 }
 
+/* Whether the player wants to go on: the window isn't closed, and nobody has asked the program to end. */
+static bool goes_on(void) { return !is_stopped() && (self.is_headless || window_goes_on()); }
+
+/* Shows how the match has ended, until the window is closed. */
+static void linger(void) {
+    while (self.is_over && self.why[0] != 0 && !self.is_headless && goes_on()) {
+        draw();
+        ggpo_idle(self.session, TURN / 1000);
+    }
+}
+
+static void play_turn(void) {
+    for (int frames = 0; frames < CATCH_UP && !self.has_parted && turn() && is_behind(); frames++) {}
+    casting_turn(self.session, field_of);
+    count_down();
+    look_at_missing();
+    if (self.has_parted)
+        self.is_over |= --self.ending <= 0;
+    if (self.is_headless)
+        return;
+    char letter = window_letter();
+    if (letter == 'y' || letter == 'n')
+        online_answer(letter == 'y');
+    draw();
+}
+
 static int play(void) {
     uint64_t next = micros();
-    while (!self.is_over && (self.is_headless || window_goes_on()) && !is_done()) {
+    while (!self.is_over && goes_on() && !is_done()) {
         uint64_t now = micros();
         if (now >= next) {
-            for (int frames = 0; frames < CATCH_UP && turn() && is_behind(); frames++) {}
-            casting_turn(self.session, field_of);
-            if (!self.is_headless)
-                draw();
+            play_turn();
             self.all_again += self.again;
             self.again = 0;
             next = now > next + 20 * TURN ? now : next + TURN;
@@ -270,6 +429,7 @@ static int play(void) {
         now = micros();
         ggpo_idle(self.session, now < next ? (int)((next - now) / 1000) : 0);
     }
+    linger();
     if (self.helpers > 0 && self.frames > 0 && !play_settled()) {
         fputs("duel: the settled words lead to another state\n", stderr);
         self.is_over = true;
@@ -372,8 +532,11 @@ static GGPOErrorCode start(unsigned short port, const char *host_word) {
 }
 
 static bool set_up(void) {
-    bool is_online = self.online.players > 0;
-    ggpo_set_disconnect_timeout(self.session, self.timeout >= 0 ? (int)self.timeout : is_online ? TIMEOUT_ONLINE : TIMEOUT);
+    if (self.timeout < 0)
+        self.timeout = self.online.players > 0 ? TIMEOUT_ONLINE : TIMEOUT;
+    ggpo_set_disconnect_timeout(self.session, (int)self.timeout);
+    if (self.watch == 0 && self.sync_frames == 0)
+        fazggpo_tell_missing(self.session);
     if (self.match > 0)
         fazggpo_set_match(self.session, (uint64_t)self.match);
     if (self.can_rejoin && !GGPO_SUCCEEDED(fazggpo_rejoin(self.session)))
@@ -417,21 +580,26 @@ static int run_online(void) {
     int status = 2;
     self.online.broker = self.cast.broker;
     self.online.lasts = self.can_rejoin;
+    self.online.is_stopped = is_stopped;
     if (online_meet(&self.online)) {
         self.players = self.online.players;
         duel_open(&self.now.field, (uint32_t)self.players);
         status = GGPO_SUCCEEDED(start(0, NULL)) ? run(set_up() && add_met(), 0) : fail(ggpo_last_error(NULL));
-    }
+    } else if (is_stopped())
+        status = 0;
     online_close();
     return status;
 }
 
 int main(int count, char **words) {
+    if (is_help(words, usage))
+        return 0;
     int at = read_options(words, options);
     bool is_online = self.online.host > 0 || self.online.code != NULL;
     long port;
     if (fazgrond_version() >> 8 != FAZGROND_VERSION >> 8) /* the same major and minor number */
         return fail("this was compiled for another version of the library");
+    stops_begin();
     if (at > 0 && is_online)
         return words[at] != NULL || self.online.host > DUEL_SHIPS ? fail("two to four players were expected, and no addresses")
                                                                  : run_online();

@@ -16,6 +16,7 @@ static struct {
     faz_lobby_match match;
     lobby_words words;
     uint32_t asking; /* who waits for an answer of this player's; 0: nobody */
+    char question[2 * TEXT];
     bool needs_code, has_asked; /* the code is typed at the terminal, which the player was told */
 } self;
 
@@ -23,14 +24,15 @@ static void tell_events(void) {
     faz_lobby_event event;
     char text[TEXT];
     while (faz_lobby_next_event(self.lobby, &event)) {
-        faz_lobby_words_of(&event, text, sizeof text);
-        if (*text != 0)
+        faz_lobby_words_of(self.lobby, &event, text, sizeof text);
+        if (*text != 0 && !faz_lobby_words_of_left(&self.words, &event))
             fprintf(stderr, "%s\n", text);
         faz_lobby_words_begin(&self.words, self.lobby, &event);
         if (event.what != FAZ_LOBBY_ASKS || event.who == 0)
             continue;
         self.asking = event.who;
-        fputs("y lets in, n doesn't\n", stderr);
+        snprintf(self.question, sizeof self.question, "%s: " LOBBY_WORDS_ANSWERS, text);
+        fputs(LOBBY_WORDS_ANSWERS "\n", stderr);
     }
 }
 
@@ -69,7 +71,7 @@ static bool open(const online *wish) {
 bool online_meet(online *wish) {
     if (!open(wish))
         return false;
-    while (faz_lobby_stage_of(self.lobby) < FAZ_LOBBY_READY) {
+    while (faz_lobby_stage_of(self.lobby) < FAZ_LOBBY_READY && !wish->is_stopped()) {
         turn();
         take_code();
         nanosleep(&(struct timespec){ .tv_nsec = MILLISECOND }, NULL);
@@ -85,6 +87,21 @@ bool online_meet(online *wish) {
         wish->is_vacant[at] = wish->is_local[at] ? self.match.is_late : (self.match.vacant >> self.match.owners[at] & 1) != 0;
     }
     return true;
+}
+
+const char *online_question(void) {
+    return self.asking != 0 ? self.question : "";
+}
+
+void online_answer(bool yes) {
+    if (self.asking != 0)
+        faz_lobby_let_in(self.lobby, self.asking, yes);
+    self.asking = 0;
+}
+
+void online_left(int player) {
+    if (self.lobby != NULL && player >= 1 && player <= (int)self.match.players)
+        self.words.left |= 1u << self.match.owners[player - 1];
 }
 
 /* ---- a line in the place of a socket: a machine is named by its first player */

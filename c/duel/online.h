@@ -14,6 +14,7 @@ typedef struct online {
     const char *code, *broker, *trusted, *stun, *relay, *tcp_relay, *name;
     bool relay_only, asks, by_door, lasts;
     long begin_with;          /* as in lobby_words */
+    bool (*is_stopped)(void); /* whether the player doesn't want to wait any more */
     /* What was met. */
     int players;
     bool is_local[DUEL_SHIPS];  /* player 1 first */
@@ -25,6 +26,12 @@ typedef struct online {
 bool online_meet(online *self);
 /* A player as the session is to add it. */
 void online_player(const online *self, int number, GGPOPlayer *player);
+/* Who waits to be let in by this player, in words; empty: nobody does. */
+const char *online_question(void);
+/* Lets in, or not. */
+void online_answer(bool yes);
+/* A player has left: that nothing comes of that machine any more isn't told then. */
+void online_left(int player);
 /* The session goes over the lines, and its packets are sealed by numbers of the lobby: one of the match, before the players are
  * added .. */
 bool online_take(GGPOSession *session);
@@ -38,6 +45,9 @@ static inline bool online_meet(online *self) {
     return false;
 }
 static inline void online_player(const online *self, int number, GGPOPlayer *player) { (void)self, (void)number, (void)player; }
+static inline const char *online_question(void) { return ""; }
+static inline void online_answer(bool yes) { (void)yes; }
+static inline void online_left(int player) { (void)player; }
 static inline bool online_take(GGPOSession *session) { return session == NULL; }
 static inline bool online_seal(GGPOSession *session) { return session == NULL; }
 static inline void online_close(void) {}

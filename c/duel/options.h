@@ -3,6 +3,7 @@
 #define DUEL_OPTIONS_H
 
 #include <stdbool.h>
+#include <stdio.h>
 #include <stdlib.h>
 #include <string.h>
 
@@ -17,6 +18,14 @@ static inline bool read_number(const char *text, long *number) {
     char *end;
     *number = text != NULL ? strtol(text, &end, 10) : -1;
     return text != NULL && *text != 0 && *end == 0 && *number >= 0;
+}
+
+/* Whether the words ask how the program is begun: it is said then, which is no error. */
+static inline bool is_help(char **words, const char *usage) {
+    int at = 1;
+    while (words[at] != NULL && strcmp(words[at], "--help") != 0)
+        at++;
+    return words[at] != NULL && fputs(usage, stdout) >= 0;
 }
 
 /* Reads the options from the second word on, and says at which word they end; 0 if they can't be read. The last option has no

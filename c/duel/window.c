@@ -7,6 +7,7 @@ enum { WIDTH = 640, HEIGHT = 480, UNIT = DUEL_WIDTH / WIDTH, DOT = 2 };
 static SDL_Window *window;
 static SDL_Renderer *renderer;
 static SDL_GameController *pad;
+static char letter; /* struck, and not asked for yet */
 
 static const uint8_t colours[DUEL_SHIPS][3] = { { 120, 200, 255 }, { 255, 150, 90 }, { 150, 230, 120 }, { 240, 220, 90 } };
 
@@ -51,10 +52,20 @@ bool window_open(int player) {
 bool window_goes_on(void) {
     SDL_Event event;
     bool goes_on = true;
-    while (SDL_PollEvent(&event))
-        if (event.type == SDL_QUIT || (event.type == SDL_KEYDOWN && event.key.keysym.sym == SDLK_ESCAPE))
+    while (SDL_PollEvent(&event)) {
+        SDL_Keycode key = event.type == SDL_KEYDOWN && event.key.repeat == 0 ? event.key.keysym.sym : SDLK_UNKNOWN;
+        if (event.type == SDL_QUIT || key == SDLK_ESCAPE)
             goes_on = false;
+        if (key >= SDLK_a && key <= SDLK_z)
+            letter = (char)key;
+    }
     return goes_on;
+}
+
+char window_letter(void) {
+    char struck = letter;
+    letter = 0;
+    return struck;
 }
 
 uint32_t window_word(int place) {

@@ -167,7 +167,7 @@ outcome casting_watch(runner *on, const wish *wish, const facts *facts, const co
         return fprintf(stderr, "the match can't be watched: %s\n", why), FAILED;
     self.core = &on->core;
     self.digests = wish->digests != NULL ? fopen(wish->digests, "wb") : NULL;
-    while (!now.has_ended && now.version == 0 && now.desync == FAZ_LATEST && (wish->is_headless || window_goes_on())
+    while (!now.has_ended && now.version == 0 && now.desync == FAZ_LATEST && wish_goes_on(wish)
            && (wish->frames == 0 || self.last < wish->frames)) {
         turn(view, wish, &now);
         due += length;

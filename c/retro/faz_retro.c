@@ -7,6 +7,7 @@
 #include "window.h"
 
 #include "../duel/options.h"
+#include "../duel/stops.h"
 
 #include <inttypes.h>
 #include <stdio.h>
@@ -204,6 +205,7 @@ static bool take_rejoin(void) {
 
 static void take_wish(void) {
     self.wish.lasts = self.lasts;
+    self.wish.is_stopped = is_stopped;
     self.wish.frames = (uint32_t)self.frames;
     self.wish.helpers = (uint32_t)self.helpers;
     self.wish.silent_after = (uint32_t)self.timeout;
@@ -315,8 +317,12 @@ static void take_what_came(core_state *opening) {
 }
 
 static void show_waiting(const char *what) {
-    if (!self.wish.is_headless)
-        window_show(&self.main.core, false, false, &what, 1);
+    const char *lines[3];
+    if (self.wish.is_headless)
+        return;
+    int count = wish_ask(lines);
+    lines[count++] = what;
+    window_show(&self.main.core, false, false, lines, count);
 }
 
 static bool meet(core_state *opening) {
@@ -337,7 +343,7 @@ static bool meet(core_state *opening) {
         meeting_host(&self.meeting, wanted, (uint32_t)self.seats, (uint32_t)self.threshold);
     else
         meeting_join(&self.meeting, &self.meeting.host, self.watch != NULL ? 0 : (uint32_t)self.seats);
-    while (!self.meeting.is_agreed && !self.meeting.is_refused && (self.wish.is_headless || window_goes_on())) {
+    while (!self.meeting.is_agreed && !self.meeting.is_refused && wish_goes_on(&self.wish)) {
         while ((length = net_next(&self.net, &from, bytes, sizeof bytes)) >= 0)
             meeting_hear(&self.meeting, &from, bytes, (size_t)length);
         take_what_came(opening);
@@ -372,7 +378,7 @@ static bool open_by_code(void) {
     self.online.machines = (uint32_t)(self.machines + self.viewers);
     if (!online_open(&self.online))
         return false;
-    while (stage == ONLINE_WAITS && (self.wish.is_headless || window_goes_on())) {
+    while (stage == ONLINE_WAITS && wish_goes_on(&self.wish)) {
         stage = online_turn();
         show_waiting(online_text());
         net_rest(&self.net, 5000);
@@ -402,7 +408,7 @@ static void write_save_ram(match *it) {
 /* Shows how the match has ended, until the window is closed; unless all frames were played that were asked for. */
 static void linger(const match *it) {
     bool has_all = self.wish.frames > 0 && it->frame >= self.wish.frames;
-    while (it->is_over && !has_all && !self.wish.is_headless && window_goes_on()) {
+    while (it->is_over && !has_all && !self.wish.is_headless && wish_goes_on(&self.wish)) {
         show_waiting(it->told);
         net_rest(&self.net, 16000);
     }
@@ -410,7 +416,7 @@ static void linger(const match *it) {
 
 /* After a desync: whether there is to be a new match. */
 static bool wants_again(void) {
-    while (!self.goes_again && !self.wish.is_headless && window_goes_on()) {
+    while (!self.goes_again && !self.wish.is_headless && wish_goes_on(&self.wish)) {
         show_waiting("desync: F5 begins a new match from before it, escape ends");
         if (window_wants_again())
             return true;
@@ -422,8 +428,8 @@ static bool wants_again(void) {
 static int play(core_state *opening) {
     match it = { .wish = &self.wish, .from = &self.from, .meeting = &self.meeting, .main = &self.main, .states = &self.states,
                  .facts = &self.facts, .opening = *opening };
-    outcome came = FAILED;
     bool goes_on = meet(&it.opening);
+    outcome came = is_stopped() ? ENDED : FAILED;
     while (goes_on) {
         if (self.watch != NULL)
             came = watch_match(&self.meeting, &self.main, &it.opening, &self.wish);
@@ -459,6 +465,7 @@ static int run(void) {
     core_state opening = { 0 };
     int status = 1;
     crashes_are_said();
+    stops_begin();
     take_wish();
     if (!open_core(&opening))
         return 1;
@@ -473,7 +480,8 @@ static int run(void) {
         status = play(&opening);
         meeting_close(&self.meeting);
         net_close(&self.net);
-    }
+    } else if (is_stopped())
+        status = 0;
     online_close();
     states_begin(&self.states, false, false);
     core_close(&self.main.core);
@@ -498,6 +506,8 @@ static int take_host(int count, char **words) {
 }
 
 int main(int count, char **words) {
+    if (is_help(words, usage))
+        return 0;
     count = take_host(count, words);
     bool is_check = count > 1 && strcmp(words[1], "check") == 0;
     int at = read_options(words + is_check, options);

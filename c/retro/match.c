@@ -2,6 +2,7 @@
 #include "match.h"
 
 #include "casting.h"
+#include "online.h"
 #include "replay.h"
 #include "window.h"
 
@@ -16,12 +17,41 @@ enum { MOST_LATE = 20 /* turns that are made up for */, FLOOD = 256, MARK_EVERY 
        SLICE = 1000 /* microseconds between two looks at a helper */,
        ENDING = 90 /* turns in which a desync is still told to the others */ };
 
+bool wish_goes_on(const wish *wish) { return !wish->is_stopped() && (wish->is_headless || window_goes_on()); }
+
+int wish_ask(const char *lines[2]) {
+    char letter = window_letter();
+    int count = online_question(lines);
+    if (count == 0 || (letter != 'y' && letter != 'n'))
+        return count;
+    online_answer(letter == 'y');
+    return 0;
+}
+
 void match_say(match *self, const char *what, uint32_t number) {
     char text[TOLD];
     snprintf(text, sizeof text, what, number);
     fprintf(stderr, "%s\n", text);
     if (!self->is_over)
         memcpy(self->told, text, sizeof text);
+}
+
+/* What is told with so many milliseconds, which count down. */
+static void count_down(match *self, const char *what, uint32_t number, uint32_t milliseconds) {
+    snprintf(self->counted, sizeof self->counted, what, number);
+    self->counted_until = net_now(self->meeting->net) + milliseconds;
+    self->counted_seconds = UINT32_MAX;
+}
+
+static bool is_past(uint32_t now, uint32_t moment) { return (int32_t)(now - moment) >= 0; }
+
+static void tell_seconds(match *self, uint32_t now) {
+    uint32_t seconds = is_past(now, self->counted_until) ? 0 : (self->counted_until - now + 999) / 1000;
+    if (self->counted[0] == 0 || seconds == 0 || seconds >= self->counted_seconds || self->is_over)
+        return;
+    self->counted_seconds = seconds;
+    snprintf(self->told, sizeof self->told, "%.150s: over in %" PRIu32 " s", self->counted, seconds);
+    fprintf(stderr, "%s\n", self->told);
 }
 
 void match_end(match *self, const char *why) {
@@ -132,7 +162,7 @@ static bool open_all(match *self) {
     return !self->has_failed;
 }
 
-static bool begin(match *self) {
+static bool open_match(match *self) {
     char why[200] = "the core refuses its opening";
     self->session = (fazgrond_session)FAZGROND_CLOSED;
     self->peer = (fazgrond_peer)FAZGROND_CLOSED;
@@ -318,6 +348,7 @@ void match_leave(match *self, uint32_t machine) {
     if (self->has_desync || (self->gone >> machine & 1) != 0)
         return;
     self->gone |= 1u << machine;
+    online_left(&self->meeting->all.machine[machine]);
     bool lasts = self->wish->lasts;
     match_say(self, lasts ? "machine %" PRIu32 " has left; it can come back" : "machine %" PRIu32 " has left", machine);
     if (!lasts && (self->gone | 1u << self->meeting->all.me) == (1u << self->meeting->all.machines) - 1)
@@ -347,24 +378,48 @@ static void drop(match *self) {
     lasting_return(self);
 }
 
+/* All have met a moment before. So who isn't there has stopped, or is out of reach. */
+static void miss(match *self, uint32_t machine) {
+    if (self->wish->lasts) {
+        if (self->lasting.base == 0) /* later it is one that has just come, or is gone again */
+            match_say(self, "machine %" PRIu32 " isn't there", machine);
+        return;
+    }
+    count_down(self, "machine %" PRIu32 " isn't there", machine, self->wish->silent_after);
+    self->missing_until = self->is_missing ? self->missing_until : self->counted_until;
+    self->is_missing = true;
+}
+
+static void look_at_missing(match *self, uint32_t now) {
+    if (self->is_missing && !self->is_running && is_past(now, self->missing_until))
+        match_fail(self, "a machine isn't there, and nobody comes back without --rejoin");
+}
+
+static void begin(match *self) {
+    match_say(self, "the match begins", 0);
+    self->told[0] = self->counted[0] = 0;
+}
+
 static void react(match *self, const fazgrond_event *event) {
     uint32_t machine = self->place_of[event->machine % FAZGROND_MACHINES];
     switch (event->code) {
     case FAZGROND_SYNCHRONIZED: match_say(self, "machine %" PRIu32 " is there", machine); break;
-    case FAZGROND_RUNNING: match_say(self, "the match begins", 0); self->told[0] = 0; break;
+    case FAZGROND_RUNNING: begin(self); break;
     case FAZGROND_TIME_SYNC: self->wait = event->frames_ahead; break;
     case FAZGROND_INTERRUPTED: match_say(self, "machine %" PRIu32 " is silent", machine); break;
     case FAZGROND_STALLED: match_say(self, "machine %" PRIu32 " gives no words", machine); break;
-    case FAZGROND_RESUMED: match_say(self, "machine %" PRIu32 " is heard again", machine); break;
-    case FAZGROND_MISSING:
-        if (self->lasting.base == 0) /* later it is one that has just come, or is gone again */
-            match_say(self, "machine %" PRIu32 " isn't there", machine);
+    case FAZGROND_RESUMED:
+        self->counted[0] = 0;
+        match_say(self, "machine %" PRIu32 " is heard again", machine);
         break;
-#if FAZGROND_VERSION >= 0x000101
-    case FAZGROND_CUT_OFF:
-        match_say(self, "too few of the others are heard: over in %" PRIu32 " ms", event->disconnect_in);
+    case FAZGROND_MISSING: miss(self, machine); break;
+#if FAZGROND_VERSION >= 0x000103
+    case FAZGROND_STRANGERS:
+        match_say(self, "%" PRIu32 " datagrams came that aren't of this match: the others have another version, or play another one",
+                  event->count);
         break;
 #endif
+    case FAZGROND_CUT_OFF: count_down(self, "too few of the others are heard", 0, event->disconnect_in); break;
     case FAZGROND_RESTARTED:
         match_say(self, self->wish->lasts ? "machine %" PRIu32 " was begun anew"
                                           : "machine %" PRIu32 " was begun anew, and can't come back", machine);
@@ -423,8 +478,8 @@ static void say_bye(match *self) {
 static void show(match *self) {
     enum { LINES = FAZGROND_MACHINES + 3, ROOM = TOLD };
     char text[LINES][ROOM];
-    const char *lines[LINES];
-    int count = 0;
+    const char *lines[LINES + 2];
+    int count = 0, asked = wish_ask(lines);
     for (uint32_t at = 0; at < FAZGROND_MACHINES; at++) {
         fazgrond_stats it;
         if (fazgrond_peer_stats(&self->peer, (uint8_t)at, &it) == FAZGROND_OK && it.is_measured != 0)
@@ -437,8 +492,8 @@ static void show(match *self) {
     if (self->told[0] != 0)
         snprintf(text[count++], ROOM, "%s", self->told);
     for (int at = 0; at < count; at++)
-        lines[at] = text[at];
-    window_show(&self->main->core, self->main->is_fresh, self->jumps, lines, count);
+        lines[asked + at] = text[at];
+    window_show(&self->main->core, self->main->is_fresh, self->jumps, lines, asked + count);
     self->main->is_fresh = false;
 }
 
@@ -509,6 +564,10 @@ static void turn(match *self) {
         take_part(self, now);
     if (self->wish->lasts)
         lasting_tell(self, now);
+    else
+        self->meeting->is_closed = self->is_running && !self->has_desync;
+    look_at_missing(self, now);
+    tell_seconds(self, now);
     if (!self->wish->is_headless)
         show(self);
 }
@@ -587,9 +646,9 @@ static void finish(match *self) {
 
 outcome match_play(match *self) {
     int64_t due = clock_micros(), length = (int64_t)(1e6 / self->main->core.av.timing.fps / self->meeting->net->speed);
-    if (!begin(self))
+    if (!open_match(self))
         return FAILED;
-    while (!self->is_over && (self->wish->is_headless || window_goes_on()) && !is_done(self)) {
+    while (!self->is_over && wish_goes_on(self->wish) && !is_done(self)) {
         int64_t begun = clock_micros(), processor = figures_processor();
         turn(self);
         int64_t now = clock_micros();

@@ -22,7 +22,14 @@ typedef struct wish {
     const char *cast, *broker; /* the name under which the match is published or watched on a broker; null: it isn't */
     uint32_t from, speed;      /* who watches there begins at this frame; the clock runs so many times as fast */
     bool lasts;                /* who has left can come back */
+    bool (*is_stopped)(void);  /* whether somebody has asked the program to end */
 } wish;
+
+/* Whether the player wants to go on: that isn't so, and the window isn't closed. */
+bool wish_goes_on(const wish *wish);
+
+/* With a window: who waits to be let in by the player, in as many lines as come back. A key answers. */
+int wish_ask(const char *lines[2]);
 
 /* UNHEARD: this machine was to come into a match, and hears nobody of it. */
 typedef enum outcome { ENDED, FAILED, DESYNCED, UNHEARD } outcome;
@@ -58,6 +65,10 @@ typedef struct match {
     bool has_desync;
     uint32_t gone; /* bits of the agreement's machines */
     struct { uint32_t frame; core_state state; } marks[MARKS]; /* settled states, far apart, the newest first */
+    bool is_missing;          /* a machine isn't there: the match is over at `missing_until`, unless it has begun */
+    uint32_t missing_until;
+    char counted[TOLD];       /* what is told with the seconds until `counted_until`; empty: nothing */
+    uint32_t counted_until, counted_seconds;
     char told[TOLD];
 } match;
 

@@ -350,6 +350,8 @@ static void take_hello(meeting *self, const address *from, cursor *heard) {
     if (is_new && known > 0) { /* else it waits for a new match already */
         if (self->is_running)
             welcome_back(self, &one, &theirs, known);
+        else if (self->is_closed)
+            send_refusal(self, &one, "the match has begun, and nobody comes back into it without --rejoin");
         return;
     }
     const char *why = is_new ? refuses(self, &one, &theirs, text, sizeof text) : difference(self, &theirs, text, sizeof text);
@@ -633,7 +635,7 @@ bool meeting_hear(meeting *self, const address *from, const uint8_t *bytes, size
 static void start(meeting *self, uint32_t players) {
     self->nonce = net_draw();
     self->players = players;
-    self->is_agreed = self->is_refused = self->has_parted = self->is_running = self->is_out = false;
+    self->is_agreed = self->is_refused = self->has_parted = self->is_running = self->is_closed = self->is_out = false;
     self->machines = self->viewers = 0;
     self->is_taking = false;
     memset(self->has_taken, 0, sizeof self->has_taken);

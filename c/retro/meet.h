@@ -53,6 +53,7 @@ typedef struct meeting {
     uint8_t delays[FAZGROND_PLAYERS]; /* of those who sit here */
     bool is_host, is_agreed, is_refused;
     bool is_running; /* in a match that lasts: who is begun anew can come in */
+    bool is_closed;  /* in one that doesn't: it can't */
     uint64_t over;   /* the draw of a match into which nobody comes any more */
     uint64_t strange; /* that of one that was heard of, and isn't this machine's */
     bool is_out;     /* another machine has said that this one is gone for it, .. */

@@ -18,6 +18,7 @@ static struct {
     lobby_words words;
     uint32_t asking; /* who waits for an answer of this player's; 0: nobody */
     char code[TEXT], text[TEXT]; /* what the host was told, and what was said last */
+    char question[TEXT];
 } self;
 
 static uint32_t millis(void) { return (uint32_t)(clock_micros() / 1000); }
@@ -27,15 +28,16 @@ static void tell_events(void) {
     char text[TEXT];
     while (faz_lobby_next_event(self.lobby, &event)) {
         faz_lobby_words_begin(&self.words, self.lobby, &event);
-        faz_lobby_words_of(&event, text, sizeof text);
-        if (*text == 0)
+        faz_lobby_words_of(self.lobby, &event, text, sizeof text);
+        if (faz_lobby_words_of_left(&self.words, &event) || *text == 0)
             continue;
         memcpy(event.what == FAZ_LOBBY_CODE ? self.code : self.text, text, sizeof text);
         fprintf(stderr, "%s\n", text);
         if (event.what != FAZ_LOBBY_ASKS || event.who == 0)
             continue;
         self.asking = event.who;
-        fputs("y lets in, n doesn't\n", stderr);
+        memcpy(self.question, text, sizeof self.question);
+        fputs(LOBBY_WORDS_ANSWERS "\n", stderr);
     }
 }
 
@@ -70,6 +72,17 @@ const char *online_text(void) {
     return self.code[0] != 0 && is_meeting ? self.code : self.text;
 }
 
+int online_question(const char *lines[2]) {
+    lines[0] = self.question;
+    lines[1] = LOBBY_WORDS_ANSWERS;
+    return self.asking != 0 ? 2 : 0;
+}
+
+void online_answer(bool yes) {
+    faz_lobby_let_in(self.lobby, self.asking, yes);
+    self.asking = 0;
+}
+
 /* ---- in the place of a socket */
 
 static address address_of(uint32_t machine) {
@@ -89,6 +102,12 @@ static long next_of_lines(address *from, uint8_t *bytes, size_t room) {
         return -1;
     *from = address_of(machine);
     return (long)length;
+}
+
+void online_left(const address *of) {
+    uint32_t machine = ntohl(of->sin_addr.s_addr) - NOWHERE;
+    if (self.lobby != NULL && machine < FAZGROND_MACHINES)
+        self.words.left |= 1u << machine;
 }
 
 static const net_wire lines = { turn, send_by_line, next_of_lines };

@@ -25,6 +25,12 @@ bool online_open(const online_wish *wish);
 online_stage online_turn(void);
 /* What it waits for, in words. */
 const char *online_text(void);
+/* Who waits to be let in by this player, and how that is answered, in as many lines as come back; 0: nobody does. */
+int online_question(const char *lines[2]);
+/* Lets in, or not. */
+void online_answer(bool yes);
+/* Who had this address has left: that nothing comes of it any more isn't told then. */
+void online_left(const address *of);
 /* Once it is ready: the meeting and its match go over the lines, and by a key that these machines alone have. Whether this machine hosts,
  * as one does that has hosted and comes back. */
 bool online_take(net *over, meeting *with);
@@ -40,6 +46,9 @@ static inline bool online_open(const online_wish *wish) {
 }
 static inline online_stage online_turn(void) { return ONLINE_OVER; }
 static inline const char *online_text(void) { return ""; }
+static inline int online_question(const char *lines[2]) { return (void)lines, 0; }
+static inline void online_answer(bool yes) { (void)yes; }
+static inline void online_left(const address *of) { (void)of; }
 static inline bool online_take(net *over, meeting *with) { return (void)over, (void)with, false; }
 static inline uint32_t online_wanted(meeting *with) { return (void)with, 0; }
 static inline void online_close(void) {}

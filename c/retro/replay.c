@@ -86,7 +86,7 @@ static bool write_replay(match *self, FILE *file) {
 
 /* A line for each settled frame: the digest of the state after it. */
 static bool write_digests(match *self, FILE *file) {
-    uint64_t path = OPENING_PATH;
+    uint64_t path = path_from(self->lasting.trail.first);
     uint32_t lacking = 0;
     for (uint32_t frame = self->lasting.trail.first; frame < last_frame(self); frame++) {
         fazgrond_row row;

@@ -3,6 +3,8 @@
 #include <stdlib.h>
 #include <string.h>
 
+uint64_t path_from(uint32_t frame) { return 2 * (uint64_t)frame + 1; }
+
 uint64_t path_after(uint64_t path, const fazgrond_row *row) {
     struct { uint64_t path; uint32_t words[FAZGROND_PLAYERS], gone, count; } all = { .path = path, .gone = row->gone,
                                                                                      .count = row->count };
@@ -133,7 +135,7 @@ bool runner_obey(runner *self, const fazgrond_request *request) {
 }
 
 bool runner_open(runner *self, const core_state *opening) {
-    self->path = OPENING_PATH;
+    self->path = path_from(0);
     self->frame = 0;
     self->at = NULL;
     return core_load(&self->core, opening) && save(self, &self->states->slots[0]);
@@ -143,7 +145,7 @@ bool runner_open_at(runner *self, const core_state *state, uint32_t frame) {
     slot *to = &self->states->slots[0];
     if (!core_load(&self->core, state) || !state_copy(&to->state, state))
         return false;
-    to->path = self->path = OPENING_PATH;
+    to->path = self->path = path_from(frame);
     to->frame = self->frame = frame;
     to->digest = core_digest(&self->core);
     self->at = to;

@@ -7,7 +7,7 @@
 #include <fazgrond.h>
 #include <pthread.h>
 
-enum { SLOTS = 833 /* without guesses 257, and nine for each of 64 jobs */, OPENING_PATH = 1 };
+enum { SLOTS = 833 /* without guesses 257, and nine for each of 64 jobs */ };
 
 /* A state. `path` is a digest of the rows that lead to it from the opening, `frame` how many frames of the match do. */
 typedef struct slot {
@@ -70,6 +70,8 @@ const fazgrond_row *trail_row(const trail *self, uint32_t frame);
 void trail_settle(trail *self, uint32_t frame, const fazgrond_row *row);
 void trail_free(trail *self);
 
+/* Where paths begin: a machine that takes another state as it comes in begins at another frame, by rows that may be the same. */
+uint64_t path_from(uint32_t frame);
 uint64_t path_after(uint64_t path, const fazgrond_row *row);
 
 /* The digest that was noted for a path; 0 if there is none. */

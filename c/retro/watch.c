@@ -49,7 +49,7 @@ outcome watch_replay(const replay *from, runner *on, const wish *wish) {
     made.frame = from->first;
     uint32_t told = 0;
     int64_t due = clock_micros(), length = (int64_t)(1e6 / on->core.av.timing.fps);
-    while (goes_on && made.frame < count && (wish->is_headless || window_goes_on())) {
+    while (goes_on && made.frame < count && wish_goes_on(wish)) {
         for (; told < from->part_count && from->parts[told].base <= made.frame; told++)
             tell_part(told, &from->parts[told]);
         goes_on = playback_step(&made, &from->rows[made.frame - from->first]);
@@ -196,8 +196,7 @@ static outcome follow_match(meeting *meeting, runner *on, const core_state *open
                               .limit = (uint32_t)(STATE_HEAD + on->core.serialize_size() + SPARE), .send = send_to_host, .of = &self };
     faz_comer_begin(&self.comer);
     self.goes_on = begin(&self.shown, on, opening, on->states->reloads, wish->digests);
-    while (self.goes_on && !is_silent && !is_over && (wish->is_headless || window_goes_on())
-           && (wish->frames == 0 || self.shown.frame < wish->frames)) {
+    while (self.goes_on && !is_silent && !is_over && wish_goes_on(wish) && (wish->frames == 0 || self.shown.frame < wish->frames)) {
         follow_turn(&self, wish);
         is_over = self.seen.has_ended != 0 && self.comer.rows >= self.seen.rows;
         is_silent = wish->silent_after > 0 && net_now(meeting->net) - self.heard_at > wish->silent_after;
@@ -226,7 +225,7 @@ outcome watch_match(meeting *meeting, runner *on, const core_state *opening, con
     memcpy(settings.owners, meeting->all.owners, sizeof settings.owners);
     self.goes_on = begin(&self.shown, on, opening, on->states->reloads, wish->digests)
         && fazgrond_viewer_open(&self.viewer, &settings) == FAZGROND_OK;
-    while (self.goes_on && self.seen.is_silent == 0 && (wish->is_headless || window_goes_on())
+    while (self.goes_on && self.seen.is_silent == 0 && wish_goes_on(wish)
            && !(self.seen.has_ended != 0 && self.shown.frame >= self.seen.rows)
            && (wish->frames == 0 || self.shown.frame < wish->frames)) {
         turn(&self, wish);

@@ -31,6 +31,7 @@ static struct {
     int volume;
     SDL_GameController *pads[KEY_SEATS];
     keys keys;
+    char letter; /* struck, and not asked for yet */
     int setting; /* the button whose key is to be struck, of both seats; below 0: none */
     bool is_paused, is_reset, wants_again, hides_lines;
 } self = { .volume = FULL, .setting = -1 };
@@ -109,6 +110,8 @@ bool window_goes_on(void) {
         case SDL_QUIT: goes_on = false; break;
         case SDL_KEYDOWN:
             goes_on &= self.setting >= 0 || event.key.keysym.scancode != SDL_SCANCODE_ESCAPE;
+            if (event.key.repeat == 0 && self.setting < 0 && event.key.keysym.sym >= SDLK_a && event.key.keysym.sym <= SDLK_z)
+                self.letter = (char)event.key.keysym.sym;
             if (event.key.repeat == 0)
                 strike(event.key.keysym.scancode);
             break;
@@ -126,6 +129,12 @@ uint32_t window_word(int seat) {
         self.is_reset = false;
     }
     return word;
+}
+
+char window_letter(void) {
+    char struck = self.letter;
+    self.letter = 0;
+    return struck;
 }
 
 bool window_wants_again(void) {

@@ -116,6 +116,18 @@ natsStatus faz_broker_create(faz_broker *self, int replicas) {
     return status;
 }
 
+/* libnats says first which line of its source found it. */
+const char *faz_broker_why(natsStatus status) {
+    const char *text = nats_GetLastError(NULL), *place = text != NULL && *text == '(' ? strstr(text, "): ") : NULL;
+    if (status == NATS_NO_RESPONDERS)
+        return "the broker there keeps no streams: is it another one than that of c/watch/broker.conf?";
+    if (status == NATS_TIMEOUT)
+        return "no broker answers there";
+    if (place != NULL)
+        text = place + 3;
+    return text != NULL && *text != 0 ? text : natsStatus_GetText(status);
+}
+
 natsStatus faz_broker_look(faz_broker *self, char *out, size_t room) {
     jsStreamInfo *info = NULL;
     natsStatus status = js_GetStreamInfo(&info, self->stream, FAZ_STREAM, NULL, NULL);

@@ -30,6 +30,9 @@ void faz_broker_close(faz_broker *broker);
 /* Makes the stream, kept by so many servers, unless it is there. */
 natsStatus faz_broker_create(faz_broker *broker, int replicas);
 
+/* Why the last call failed, in words. */
+const char *faz_broker_why(natsStatus status);
+
 /* Says in a line what the stream has, and who leads it. */
 natsStatus faz_broker_look(faz_broker *broker, char *out, size_t room);
 

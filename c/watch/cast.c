@@ -452,6 +452,7 @@ static const char *text_of(natsStatus status) {
     switch (status) {
     case NATS_OK: return NULL;
     case NATS_NO_RESPONDERS: return "it has no stream for matches, or lost it: faz-cast --create makes one";
+    case NATS_NO_SERVER_SUPPORT: /* as long as there is no connection */
     case NATS_TIMEOUT: return "it didn't answer: it is away, or this user may not publish here";
     default: return natsStatus_GetText(status);
     }

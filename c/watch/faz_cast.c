@@ -7,6 +7,7 @@
 #include "../duel/bot.h"
 #include "../duel/clock.h"
 #include "../duel/options.h"
+#include "../duel/stops.h"
 
 #include <stdio.h>
 
@@ -42,20 +43,20 @@ static int create(void) {
         status = faz_broker_look(&broker, said, sizeof said);
     if (status == NATS_OK)
         puts(said);
-    else if (status == NATS_NO_RESPONDERS)
-        fputs("faz-cast: the broker there keeps no streams: is it another one than that of c/watch/broker.conf?\n", stderr);
     else
-        fprintf(stderr, "faz-cast: %s: %s\n", natsStatus_GetText(status), nats_GetLastError(NULL));
+        fprintf(stderr, "faz-cast: %s\n", faz_broker_why(status));
     faz_broker_close(&broker);
     return status == NATS_OK ? 0 : 1;
 }
 
-static void play(faz_cast *cast, duel *field) {
+/* So many frames were played. */
+static uint32_t play(faz_cast *cast, duel *field) {
     duel_bot bots[DUEL_SHIPS];
     int64_t due = 0;
+    uint32_t frame = 0;
     for (uint32_t at = 0; at < field->ships; at++)
         bots[at] = duel_bot_of(self.seed, (int)at + 1);
-    for (uint32_t frame = 0; frame < (uint32_t)self.frames; frame++) {
+    for (; frame < (uint32_t)self.frames && !is_stopped(); frame++) {
         fazgrond_row row = { .count = field->ships };
         for (uint32_t at = 0; at < field->ships; at++) {
             row.words[at] = bots[at].word;
@@ -66,6 +67,7 @@ static void play(faz_cast *cast, duel *field) {
         faz_cast_row(cast, &row);
         faz_cast_settled(cast, frame + 1, field);
     }
+    return frame;
 }
 
 static int publish(const char *match, long players) {
@@ -80,14 +82,14 @@ static int publish(const char *match, long players) {
                                                          .opening = &field, .session = &session, .rate = 60 }, &why);
     if (cast == NULL)
         return fail(why);
-    play(cast, &field);
-    faz_cast_end(cast, "the bots are done");
+    uint32_t frames = play(cast, &field);
+    faz_cast_end(cast, is_stopped() ? "the match was closed" : "the bots are done");
     bool has_all = faz_cast_close(cast, 5000, &seen);
     fprintf(stderr, "%u rows lost, %u messages sent again, %u disputed\n", seen.lost, seen.again, seen.disputed);
     if (!has_all)
         fprintf(stderr, "faz-cast: the broker doesn't have all of it: %s\n", seen.why != NULL ? seen.why : "it is too slow");
     duel_text(&field, text, sizeof text);
-    printf("frame %ld state %s\n", self.frames, text);
+    printf("frame %u state %s\n", frames, text);
     return has_all ? 0 : 1;
 }
 
@@ -98,8 +100,11 @@ int main(int count, char **words) {
         { "--frames", &self.frames, NULL, NULL },     { "--speed", &self.speed, NULL, NULL },
         { "--create", NULL, NULL, &self.is_create },  { NULL, NULL, NULL, NULL },
     };
+    if (is_help(words, usage))
+        return 0;
     int at = read_options(words, options);
     long players = 0;
+    stops_begin();
     if (at == 0 || self.speed < 1 || count != at + (self.is_create ? 0 : 2)
         || (!self.is_create && !read_number(words[at + 1], &players))) {
         fputs(usage, stderr);

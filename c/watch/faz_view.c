@@ -5,6 +5,7 @@
 
 #include "../duel/clock.h"
 #include "../duel/options.h"
+#include "../duel/stops.h"
 #include "../duel/window.h"
 
 #include <poll.h>
@@ -157,7 +158,7 @@ static void hear_keys(const faz_view_state *now) {
 static int watch(void) {
     int64_t due = 0, heard = clock_micros();
     faz_view_state now = { 0 };
-    while (!self.is_over && !now.has_ended && (self.is_headless || window_goes_on())) {
+    while (!self.is_over && !now.has_ended && !is_stopped() && (self.is_headless || window_goes_on())) {
         uint32_t known = now.known;
         hear_lines();
         uint32_t played = faz_view_turn(self.view, on_seen, NULL);
@@ -290,7 +291,10 @@ int main(int count, char **words) {
         { "--live", NULL, NULL, &self.is_live },        { "--headless", NULL, NULL, &self.is_headless },
         { NULL, NULL, NULL, NULL },
     };
+    if (is_help(words, usage))
+        return 0;
     int at = read_options(words, options);
+    stops_begin();
     if (at == 0 || count != at + 1 || self.speed < 1) {
         fputs(usage, stderr);
         return 2;
