@@ -15,7 +15,7 @@ struct Machine {
     std::vector<fazgrond::Datagram> here, coming;
 
     explicit Machine(std::uint32_t me) {
-        fazgrond::Match match = fazgrond_match_for(machines, me);
+        fazgrond::Match match = fazgrond::match_of(machines, me);
         for (std::uint32_t at = 0; at < machines; at++)
             match.owners[at] = at;
         match.draw = 70 + me;

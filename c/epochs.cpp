@@ -1,6 +1,7 @@
 // The classes go on in epochs as the calls of C do: two machines mark, and come to the state of the game that is run once over all
 // words, in the same epochs. Somebody watches each of them, and is told of the first epoch after its end.
 #include <fazgrond.hpp>
+#include <deque>
 
 namespace {
 
@@ -26,14 +27,17 @@ struct Machine {
     fazgrond::Line line;
     fazgrond::Viewer viewer;
     bool is_right = true;
+    bool is_watched;
     State state = 0;
     std::vector<State> slots = std::vector<State>(257);
     std::vector<fazgrond::Epoch> epochs;
-    std::vector<fazgrond::Datagram> here, coming;
+    std::vector<fazgrond::Datagram> here;
+    std::deque<std::vector<fazgrond::Datagram>> coming; // in this turn first
 
-    explicit Machine(std::uint32_t number) : me(number) {
+    Machine(std::uint32_t number, std::size_t lag, bool watched) : me(number), is_watched(watched), coming(lag) {
         fazgrond::Settings settings = fazgrond::settings_of(2, 1u << me);
-        fazgrond::Match match = fazgrond_match_for(2, me);
+        fazgrond::Match match = fazgrond::match_of(2, me);
+        is(match.silent_after == 5000 && match.notify_after == 750 && match.stalled_after == 0);
         match.owners[0] = 0;
         match.owners[1] = 1;
         match.draw = 70 + me;
@@ -96,7 +100,8 @@ void tell_past(Machine &self) {
     self.is(rows == self.epochs[1].base);
 }
 
-// Who asks to come by the second machine's mark isn't welcome.
+// Who asks to come by the second machine's mark isn't welcome. Where somebody watches, what has come is played first, so that all rows are
+// told of the epoch that may be over.
 void go_on(Machine &self) {
     if (auto ask = self.peer.ask()) {
         self.is(ask->player == 2 && ask->ticket == 9 && ask->comes[0] == 1 && ask->comes[1] == 0);
@@ -104,8 +109,8 @@ void go_on(Machine &self) {
     }
     std::uint64_t before = self.frame();
     std::uint32_t reached = 0;
-    fazgrond_row row; // what has come is played first, so that all rows are told of the epoch that may be over
-    if (self.session.has_news().value_or(false))
+    fazgrond::Row row;
+    if (self.is_watched && self.session.has_news().value_or(false))
         self.must(self.session.synchronize_input(row, self.carry_out()));
     Code code = self.peer.go_on(self.session, reached, self.carry_out());
     if (code == Code::ok) {
@@ -114,7 +119,7 @@ void go_on(Machine &self) {
         if (epoch)
             self.epochs.push_back(*epoch);
         self.is(self.peer.has_stayed(0) && self.peer.has_stayed(1) && !self.peer.has_stayed(2));
-        if (self.epochs.size() == 2)
+        if (self.is_watched && self.epochs.size() == 2)
             tell_past(self);
     } else
         self.is(code == Code::nothing);
@@ -153,6 +158,8 @@ void play(Machine &self, std::uint32_t turn) {
 
 void take_turn(Machine &self, Machine &other, std::uint32_t turn) {
     std::uint32_t now = turn * turn_time;
+    self.here = std::move(self.coming.front());
+    self.coming.pop_front();
     for (const fazgrond::Datagram &came : self.here)
         (void)self.peer.receive(self.session, came.bytes.data(), came.length, now);
     self.must(self.peer.poll(self.session, now));
@@ -161,10 +168,11 @@ void take_turn(Machine &self, Machine &other, std::uint32_t turn) {
     while (auto event = self.peer.event())
         self.is(event->code != FAZGROND_LEFT && event->code != FAZGROND_DROPPED && event->code != FAZGROND_DESYNC);
     fazgrond::Datagram sent;
+    other.coming.emplace_back();
     if (self.peer.send(self.session, std::uint8_t(other.me), now, sent) == Code::ok)
-        other.coming.push_back(sent);
+        other.coming.back().push_back(sent);
     if (self.peer.send_before(std::uint8_t(other.me), now, sent) == Code::ok)
-        other.coming.push_back(sent);
+        other.coming.back().push_back(sent);
 }
 
 State alone() {
@@ -178,6 +186,8 @@ State alone() {
 bool is_past_over(Machine &self) {
     fazgrond::Datagram sent;
     auto seen = self.line.look(0);
+    if (!self.is_watched)
+        return true;
     return seen && seen->is_playing != 0 && seen->has_ended == 0 && self.line.send_before(self.peer, 0, sent) == Code::nothing;
 }
 
@@ -191,17 +201,17 @@ bool has_come(Machine &self, const std::vector<fazgrond::Epoch> &others) {
         && self.epochs[2].base + self.session.settled().value_or(0) == frames;
 }
 
-} // namespace
-
-int main() {
-    Machine one(0), two(1);
+// Two machines, each of which hears what the other sent so many turns before.
+bool both_come(std::size_t lag, bool is_watched) {
+    Machine one(0, lag, is_watched), two(1, lag, is_watched);
     for (std::uint32_t turn = 0; turn < 600; turn++) {
-        one.here = std::move(one.coming);
-        two.here = std::move(two.coming);
-        one.coming.clear();
-        two.coming.clear();
         take_turn(one, two, turn);
         take_turn(two, one, turn);
     }
-    return has_come(one, two.epochs) && has_come(two, one.epochs) ? 0 : 1;
+    return has_come(one, two.epochs) && has_come(two, one.epochs);
 }
+
+} // namespace
+
+// Where nobody watches, no call of the session stands between the poll and the seam.
+int main() { return both_come(1, true) && both_come(1, false) && both_come(3, false) && both_come(5, false) ? 0 : 1; }

@@ -7,10 +7,12 @@ public static unsafe class Fazgrond
 {
     const string Library = "fazgrond";    // fazgrond.dll, or libfazgrond.so on Linux
 
-    public const uint Version = 0x000102;
+    public const uint Version = 0x000103;
     public const int Players = 8;
     public const uint NoPlayer = 255;
     public const int Machines = 8;
+    public const uint SilentAfter = 5000;
+    public const uint NotifyAfter = 750;
     public const int Datagram = 1200;
     public const int HeldWords = 64;
     public const uint Nobody = 254;
@@ -36,7 +38,7 @@ public static unsafe class Fazgrond
                      Marked = 322;
     public const uint Synchronizing = 1001, Synchronized = 1002, Running = 1003, Disconnected = 1004, TimeSync = 1005,
                       Interrupted = 1006, Resumed = 1007, Left = 1101, Desync = 1102, Mismatch = 1103, Dropped = 1104,
-                      Restarted = 1105, Stalled = 1106, Refused = 1107, Missing = 1108, CutOff = 1109;
+                      Restarted = 1105, Stalled = 1106, Refused = 1107, Missing = 1108, CutOff = 1109, Strangers = 1110;
     public const uint PieceAgain = 1, PieceTaken = 2, StateWhole = 3, StateWrong = 4;
 
     [StructLayout(LayoutKind.Sequential)]
@@ -401,6 +403,8 @@ public static unsafe class Fazgrond
         match.Size = (uint)sizeof(Match);
         match.Me = me;
         match.Machines = machines;
+        match.SilentAfter = SilentAfter;
+        match.NotifyAfter = NotifyAfter;
         match.Words = 1;
         for (int at = 0; at < Players; at++)
             match.Owners[at] = NoPlayer;
@@ -435,6 +439,68 @@ public static unsafe class Fazgrond
         for (int at = 0; at < Players; at++)
             mark.Delays[at] = AsBefore;
         return mark;
+    }
+
+    // Carries out a request, as those that a session leaves; and makes a number of the state in a slot, which is another one for most
+    // other states.
+    public delegate void CarryOut(Request* request);
+    public delegate ulong DigestOf(uint slot);
+
+    // A sync test: does a game come out the same when it is run again? It has requests carried out: to run frames with these rows, `depth`
+    // at a time, to go back to the state before them, and to run them once more. The first frame that comes out another, or whose state
+    // before it has changed since it was saved; null if there is none. Slots from 0 to `depth` + 1 are used.
+    public static int? SyncTest(Row[] rows, CarryOut carryOut, DigestOf digestOf, int depth = 8)
+    {
+        if (depth < 1)
+            throw new ArgumentOutOfRangeException("depth", depth, "a frame at least is needed");
+        for (int first = 0; first < rows.Length; first += depth)
+        {
+            var some = new Row[Math.Min(depth, rows.Length - first)];
+            Array.Copy(rows, first, some, 0, some.Length);
+            int other = FirstOther(some, carryOut, digestOf);
+            if (other <= some.Length)
+                return first + other;
+        }
+        return null;
+    }
+
+    // Which of some frames is the first that comes out another; more than there are if none does.
+    static int FirstOther(Row[] rows, CarryOut carryOut, DigestOf digestOf)
+    {
+        uint last = (uint)rows.Length + 1;
+        int other = rows.Length + 1;
+        var digests = new ulong[last];
+        Asks(carryOut, Save, 0, new Row());
+        digests[0] = digestOf(0);
+        for (uint at = 1; at < last; at++)
+            digests[at] = Tested(rows[at - 1], at, carryOut, digestOf);
+        Asks(carryOut, Load, 0, new Row());
+        for (uint at = 1; at < last; at++)
+        {
+            if (Tested(rows[at - 1], last, carryOut, digestOf) != digests[at])
+                other = Math.Min(other, (int)at - 1);
+            Asks(carryOut, Free, last, new Row());
+        }
+        for (uint at = 0; at < last; at++)
+        {
+            if (digestOf(at) != digests[at])
+                other = Math.Min(other, (int)at);
+            Asks(carryOut, Free, at, new Row());
+        }
+        return other;
+    }
+
+    static ulong Tested(Row row, uint slot, CarryOut carryOut, DigestOf digestOf)
+    {
+        Asks(carryOut, Step, 0, row);
+        Asks(carryOut, Save, slot, new Row());
+        return digestOf(slot);
+    }
+
+    static void Asks(CarryOut carryOut, uint kind, uint slot, Row row)
+    {
+        var request = new Request { Kind = kind, Slot = slot, Row = row };
+        carryOut(&request);
     }
 
     public static void fazgrond_peer_close(Peer* peer) { fazgrond_close((Session*)peer); }

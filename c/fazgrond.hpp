@@ -4,6 +4,7 @@
 
 #include "fazgrond.h"
 
+#include <algorithm>
 #include <array>
 #include <cstddef>
 #include <cstdint>
@@ -115,6 +116,15 @@ inline Settings settings_of(std::uint32_t players, std::uint32_t local) {
     Settings settings = fazgrond_settings_for(players);
     settings.local = local;
     return settings;
+}
+
+// A match of so many machines, of which this one is `me`. Whoever answers nothing is gone after 5,000 milliseconds, and told of after
+// 750; all else is as fazgrond_match_for has it.
+inline Match match_of(std::uint32_t machines, std::uint32_t me) {
+    Match match = fazgrond_match_for(machines, me);
+    match.silent_after = FAZGROND_SILENT_AFTER;
+    match.notify_after = FAZGROND_NOTIFY_AFTER;
+    return match;
 }
 
 // A handle of C, which closes by itself.
@@ -655,6 +665,45 @@ inline Code state_ask(std::uint64_t number, std::uint8_t me, std::uint64_t which
 // What the state is called that bytes are a piece of.
 inline Code state_told(std::uint64_t number, const std::uint8_t *bytes, std::size_t length, StateName &name) {
     return Code(fazgrond_state_told(number, bytes, length, &name));
+}
+
+// A sync test: does a game come out the same when it is run again? It gives `carry_out` requests as a session does: to run frames with
+// these rows, `depth` at a time, to go back to the state before them, and to run them once more. The first frame that comes out another,
+// or whose state before it has changed since it was saved; nothing if there is none. `digest` makes a number of the state in a slot,
+// which is another one for most other states. Slots from 0 to `depth` + 1 are used.
+template <class CarryOut, class Digest>
+std::optional<std::size_t> sync_test(const std::vector<Row> &rows, CarryOut &&carry_out, Digest &&digest, std::size_t depth = 8) {
+    auto asks = [&](std::uint32_t kind, std::size_t slot, const Row &row = Row{}) {
+        const Request request = { kind, std::uint32_t(slot), row };
+        carry_out(request);
+    };
+    auto runs = [&](const Row &row, std::size_t slot) {
+        asks(FAZGROND_STEP, 0, row);
+        asks(FAZGROND_SAVE, slot);
+        return digest(std::uint32_t(slot));
+    };
+    for (std::size_t first = 0, count; first < rows.size(); first += count) {
+        count = std::max<std::size_t>(1, std::min(depth, rows.size() - first));
+        asks(FAZGROND_SAVE, 0);
+        std::vector digests = { digest(0u) };
+        for (std::size_t at = 0; at < count; at++)
+            digests.push_back(runs(rows[first + at], at + 1));
+        std::size_t other = count + 1;
+        asks(FAZGROND_LOAD, 0);
+        for (std::size_t at = 0; at < count; at++) {
+            if (runs(rows[first + at], count + 1) != digests[at + 1])
+                other = std::min(other, at);
+            asks(FAZGROND_FREE, count + 1);
+        }
+        for (std::size_t at = 0; at <= count; at++) {
+            if (digest(std::uint32_t(at)) != digests[at])
+                other = std::min(other, at);
+            asks(FAZGROND_FREE, at);
+        }
+        if (other <= count)
+            return first + other;
+    }
+    return std::nullopt;
 }
 
 // Of the library that the program runs with, as FAZGROND_VERSION is of the header.

@@ -12,7 +12,7 @@ struct Machine {
     std::uint32_t steps = 0, job_steps = 0;
 
     Machine(std::uint32_t me, std::uint32_t held_turns) {
-        fazgrond::Match match = fazgrond_match_for(2, me);
+        fazgrond::Match match = fazgrond::match_of(2, me);
         match.owners[0] = 0;
         match.owners[1] = 1;
         match.draw = 70 + me;

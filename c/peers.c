@@ -14,7 +14,7 @@ static void is(int32_t got, int32_t wanted, int line) {
     }
 }
 
-enum { KIND = 13, PLAY = 1 };
+enum { SENDER = 12, KIND = 13, PLAY = 1, VIEWER = 255 };
 
 /* A machine: its session, and the peer beside it. */
 typedef struct machine {
@@ -491,6 +491,50 @@ static void others(void) {
     close_both(&one, &two);
 }
 
+/* What would be the other machine's hello, but for a byte. */
+static void is_no_hello_of_it(machine *to, size_t come, size_t place, uint8_t byte, int32_t answer) {
+    uint8_t was = bytes[place];
+    bytes[place] = byte;
+    IS(heard_by(to, come, 0), answer);
+    bytes[place] = was;
+}
+
+/* Hellos of no other machine of this match are told once one is missing, and how many came. What is no hello of a machine isn't. */
+static void strangers(void) {
+    machine one = { FAZGROND_CLOSED, FAZGROND_CLOSED }, two = { FAZGROND_CLOSED, FAZGROND_CLOSED };
+    open_both(&one, &two);
+    fazgrond_match match = match_of(1);
+    match.numbers[0]++;
+    IS(fazgrond_peer_open(&two.peer, &two.session, &match), FAZGROND_OK);
+    polled(&one, 0);
+    size_t come = pass_or(&two, &one, 0, 0, FAZGROND_NOT_SEALED);
+    is_no_hello_of_it(&one, come, 3, '2', FAZGROND_NOT_SEALED); /* of another version */
+    is_no_hello_of_it(&one, come, SENDER, 7, FAZGROND_INVALID_MACHINE);
+    is_no_hello_of_it(&one, come, SENDER, 0, FAZGROND_OWN_MACHINE);
+    is_no_hello_of_it(&one, come, SENDER, VIEWER, FAZGROND_INVALID_MACHINE);
+    is_no_hello_of_it(&one, come, KIND, PLAY, FAZGROND_NOT_SEALED);
+    IS(heard_by(&one, SENDER + 1, 0), FAZGROND_NOT_SEALED);
+    polled(&one, 5000);
+    no_event(&one);
+    polled(&one, 5001);
+    next_event(&one, FAZGROND_MISSING, 1);
+    next_event(&one, FAZGROND_STRANGERS, 0);
+    IS((int32_t)event.count, 4);
+    pass_or(&two, &one, 0, 0, FAZGROND_NOT_SEALED);
+    polled(&one, 5002);
+    no_event(&one);
+    /* who is missing first is told so alone, and of strangers as the first one comes */
+    polled(&two, 0);
+    polled(&two, 5001);
+    next_event(&two, FAZGROND_MISSING, 0);
+    no_event(&two);
+    pass_or(&one, &two, 1, 5002, FAZGROND_NOT_SEALED);
+    polled(&two, 5002);
+    next_event(&two, FAZGROND_STRANGERS, 0);
+    IS((int32_t)event.count, 1);
+    close_both(&one, &two);
+}
+
 static fazgrond_line_settings watched(void) {
     fazgrond_line_settings settings = { .number = 9, .draw = 90, .digest = 8, .machines = 2, .silent_after = 5000 };
     for (uint32_t at = 0; at < FAZGROND_PLAYERS; at++)
@@ -662,5 +706,6 @@ int main(void) {
     close_both(&one, &two);
     standing_still();
     others();
+    strangers();
     return 0;
 }

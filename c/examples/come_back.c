@@ -25,14 +25,15 @@ typedef struct state {
     uint64_t number, frame;
 } state;
 
-/* A program. While it comes in it has `comer`, and neither session nor peer. */
+/* A program: `me` is its seat, and `machine` which machine it is in this epoch, which may be another number once it came back. While it
+ * comes in it has `comer`, and neither session nor peer. */
 typedef struct program {
     fazgrond_session session;
     fazgrond_peer peer;
     fazgrond_epoch epoch;
     faz_hosting hosting;
     faz_comer comer;
-    uint32_t me;
+    uint32_t me, machine;
     bool is_there, is_coming, is_at_seam, has_left;
     state now, saved[SLOTS], settled; /* `settled`: the last one that nothing changes any more */
     uint64_t opened_at;               /* the frame of the match at which session and peer were opened */
@@ -49,6 +50,12 @@ static void must(int32_t code) {
         fprintf(stderr, "refused: %" PRId32 "\n", code);
         exit(1);
     }
+}
+
+/* What can't go on says why. */
+static void end(const char *why) {
+    fprintf(stderr, "%s\n", why);
+    exit(1);
 }
 
 /* A game draws these 64 bits from the system's random source, others each time. */
@@ -85,6 +92,13 @@ static void post(void *of, uint32_t to, const uint8_t *bytes, size_t length) {
     memcpy(sent->bytes, bytes, length);
 }
 
+/* By the seat at which the machine sits in this epoch: whoever comes gets the lowest number that no machine has, not the one it had. */
+static void send_to(program *self, uint32_t machine, const uint8_t *bytes, size_t length) {
+    for (uint32_t seat = 0; seat < 2; seat++) /* seat 0 has player 1 */
+        if (self->epoch.owners[seat] == machine)
+            post(NULL, seat, bytes, length);
+}
+
 /* ---- A program that plays. */
 
 static void carry_out(program *self, const fazgrond_request *request) {
@@ -107,9 +121,9 @@ static void carry_out_requests(program *self) {
 }
 
 /* Opens session and peer where an epoch begins, with the state that the game has, and a seat for the other to come back to. */
-static void open_both(program *self, const fazgrond_epoch *epoch) {
+static void open_both(program *self, const fazgrond_epoch *epoch, uint32_t machine) {
     fazgrond_settings settings = fazgrond_settings_for(2);
-    fazgrond_match match = fazgrond_match_for(2, self->me);
+    fazgrond_match match = fazgrond_match_for(2, machine);
     uint32_t other = 1 - self->me;
     settings.local = 1u << self->me;
     settings.delays[self->me] = epoch->delays[self->me];
@@ -120,11 +134,12 @@ static void open_both(program *self, const fazgrond_epoch *epoch) {
     fazgrond_one_number(&match, NUMBER);
     must(fazgrond_open(&self->session, &settings));
     must(fazgrond_peer_open_lasting(&self->peer, &self->session, &match, epoch));
+    self->machine = machine;
     self->epoch = *epoch;
     self->opened_at = epoch->base;
     self->saved[0] = self->settled = self->now;
     self->is_coming = false;
-    self->hosting = (faz_hosting){ .session = &self->session, .peer = &self->peer, .me = self->me, .digest = DIGEST,
+    self->hosting = (faz_hosting){ .session = &self->session, .peer = &self->peer, .me = machine, .digest = DIGEST,
                                    .random = new_draw(), .send = post };
     self->hosting.seat[other] = (faz_seat){ .is_taken = true, .number = NUMBER, .ticket = 1 + other, .players = 1u << other };
     must(faz_hosting_begin(&self->hosting, bytes_of(&self->now), sizeof self->now));
@@ -184,10 +199,15 @@ static void see_settled(program *self) {
     }
 }
 
-static void hear_events(program *self) {
+/* Before the match runs here nobody else could put out who is missing. */
+static void hear_events(program *self, bool is_running) {
     fazgrond_event event;
     while (fazgrond_peer_event(&self->peer, &event) == FAZGROND_OK) {
         self->has_left |= event.code == FAZGROND_LEFT || event.code == FAZGROND_DISCONNECTED;
+        if (event.code == FAZGROND_MISSING && !is_running)
+            end("the other machine isn't there");
+        if (event.code == FAZGROND_DROPPED)
+            end("the match goes on without this machine: begin again to come back");
         must(event.code == FAZGROND_DESYNC ? FAZGROND_DESYNC : FAZGROND_OK);
     }
 }
@@ -197,19 +217,19 @@ static void send_all(program *self, uint32_t now) {
     size_t length;
     for (machine = 0; machine < 2; machine++) {
         if (fazgrond_peer_send(&self->peer, &self->session, machine, now, bytes, sizeof bytes, &length) == FAZGROND_OK)
-            post(NULL, machine, bytes, length);
+            send_to(self, machine, bytes, length);
         if (fazgrond_peer_send_before(&self->peer, machine, now, bytes, sizeof bytes, &length) == FAZGROND_OK)
-            post(NULL, machine, bytes, length);
+            send_to(self, machine, bytes, length); /* by the seat of the player that it owns */
     }
     while (fazgrond_peer_send_more(&self->peer, &machine, bytes, sizeof bytes, &length) == FAZGROND_OK)
-        post(NULL, machine, bytes, length); /* after fazgrond_peer_send for each machine */
+        send_to(self, machine, bytes, length); /* after fazgrond_peer_send for each machine */
 }
 
 static void take_turn(program *self, uint32_t now) {
     uint32_t frames, is_running;
     must(fazgrond_peer_poll(&self->peer, &self->session, now));
     must(fazgrond_peer_is_running(&self->peer, &is_running));
-    hear_events(self);
+    hear_events(self, is_running != 0);
     if (is_running != 0) {
         faz_hosting_answer(&self->hosting);
         play_what_came(self); /* fazgrond_synchronize_input, if fazgrond_has_news and nobody has left in this turn */
@@ -234,12 +254,13 @@ static void begin_to_come(program *self) {
 }
 
 static void come(program *self, uint32_t now) {
-    faz_comer_turn(&self->comer, now);
+    if (faz_comer_turn(&self->comer, now) == FAZGROND_NOTHING)
+        end("nobody plays the match any more");
     for (faz_next next = faz_comer_next(&self->comer); next.what != FAZ_NOTHING; next = faz_comer_next(&self->comer))
         switch (next.what) {
         case FAZ_LOAD: memcpy(&self->now, next.state, next.length); break;
         case FAZ_STEP: self->now = stepped(self->now, &next.row); break;
-        default: open_both(self, &next.epoch); /* FAZ_IN: by fazgrond_open and fazgrond_peer_open_lasting */
+        default: open_both(self, &next.epoch, next.me); /* FAZ_IN: by fazgrond_open and fazgrond_peer_open_lasting */
         }
 }
 
@@ -279,7 +300,7 @@ int main(void) {
     fazgrond_epoch epoch = first_epoch();
     for (uint32_t me = 0; me < 2; me++) {
         begin_program(me);
-        open_both(&both[me], &epoch);
+        open_both(&both[me], &epoch, me);
     }
     for (; both[0].settled.frame < FRAMES || both[1].settled.frame < FRAMES; turn++) {
         if (turn == ENDED)

@@ -61,14 +61,19 @@ static std::uint32_t wait_turns;
 static void open(std::uint8_t me) {
     std::random_device source;
     fazgrond::Settings settings = fazgrond::settings_of(2, 1u << me);
-    fazgrond::Match match = fazgrond_match_for(2, me);
+    fazgrond::Match match = fazgrond::match_of(2, me);
     settings.limit = frames;
     match.owners[0] = 0; // machine 0 has player 1
     match.owners[1] = 1;
     match.draw = std::uint64_t(source()) << 32 | source();
-    match.silent_after = 30000;
+    match.silent_after = 100000;
     fazgrond_one_number(&match, 0x5eed5eed5eed5eed);
     must(session.open(settings) == Code::ok && peer.open(session, match) == Code::ok, "the match");
+}
+
+// What ends the match here. To a program that was begun again, and that its match doesn't take back, the other machine is missing.
+static bool is_over(std::uint32_t code) {
+    return code == FAZGROND_MISSING || code == FAZGROND_MISMATCH || code == FAZGROND_DROPPED || code == FAZGROND_DESYNC;
 }
 
 // A frame, or at least what came too late for the frames before.
@@ -92,7 +97,10 @@ static void take_turn(std::uint8_t me, int line, const sockaddr_in &other, std::
         play(me);
     must(peer.note_settled(session, game.saved[session.settled_slot()->slot]) == Code::ok, "a digest");
     while (std::optional<fazgrond::Event> event = peer.event()) {
-        must(event->code != FAZGROND_DESYNC, "the other's state");
+        if (is_over(event->code)) {
+            std::cerr << "the match is over: " << fazgrond::message(Code(event->code)) << '\n';
+            std::exit(1);
+        }
         if (event->code == FAZGROND_TIME_SYNC)
             wait_turns = event->frames_ahead;
     }

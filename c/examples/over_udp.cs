@@ -5,6 +5,7 @@ using System.Net;
 using System.Net.Sockets;
 using System.Runtime.InteropServices;
 using System.Security.Cryptography;
+using System.Text;
 using System.Threading;
 using static Fazgrond;
 
@@ -58,7 +59,7 @@ public static unsafe class OverUdp
         match.Owners[0] = 0;    // machine 0 has player 1
         match.Owners[1] = 1;
         match.Draw = BitConverter.ToUInt64(draw, 0);
-        match.SilentAfter = 30000;
+        match.SilentAfter = 100000;
         fazgrond_one_number(&match, 0x5eed5eed5eed5eed);
         *session = new Session();    // closed handles
         *peer = new Peer();
@@ -95,6 +96,18 @@ public static unsafe class OverUdp
         wait -= wait > 0 ? 1u : 0;
     }
 
+    // To a program that was begun again, and that its match doesn't take back, the other machine is missing.
+    static void EndIfOver(uint code)
+    {
+        UIntPtr length;
+        if (code != Missing && code != Mismatch && code != Dropped && code != Desync)
+            return;
+        fixed (byte* at = bytes)
+            length = fazgrond_text((int)code, at, (UIntPtr)bytes.Length);
+        Console.Error.WriteLine("the match is over: {0}", Encoding.ASCII.GetString(bytes, 0, (int)length));
+        Environment.Exit(1);
+    }
+
     static void TakeTurn(uint now)
     {
         uint isRunning, rows, place;
@@ -109,7 +122,7 @@ public static unsafe class OverUdp
         Must(fazgrond_peer_note_settled(peer, session, saved[slot]));
         while (fazgrond_peer_event(peer, &happened) == Ok)
         {
-            Must(happened.Code == Desync ? (int)Desync : Ok);
+            EndIfOver(happened.Code);
             if (happened.Code == TimeSync)
                 wait = happened.FramesAhead;
         }

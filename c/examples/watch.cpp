@@ -72,12 +72,11 @@ public:
 
     explicit Machine(std::uint32_t number) : me(number) {
         fazgrond::Settings settings = fazgrond::settings_of(2, 1u << me);
-        fazgrond::Match match = fazgrond_match_for(2, me);
+        fazgrond::Match match = fazgrond::match_of(2, me);
         settings.limit = frames;
         match.owners[0] = 0; // machine 0 has player 1
         match.owners[1] = 1;
         match.draw = new_draw();
-        match.silent_after = 5000;
         fazgrond_one_number(&match, 0x5eed5eed5eed5eed);
         must(session.open(settings));
         must(peer.open(session, match));

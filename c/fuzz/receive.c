@@ -212,7 +212,7 @@ static void ask(match *self, uint32_t who) {
     fazgrond_event event;
     fazgrond_stats stats;
     while (fazgrond_peer_event(&at->peer, &event) == FAZGROND_OK)
-        MUST((event.code >= 1001 && event.code <= 1007) || (event.code >= 1101 && event.code <= 1109));
+        MUST((event.code >= 1001 && event.code <= 1007) || (event.code >= 1101 && event.code <= 1110));
     for (uint32_t of = 0; of < self->machines; of++)
         fazgrond_peer_stats(&at->peer, (uint8_t)of, &stats);
 }

@@ -1,4 +1,5 @@
 /* Matches of machines over the library, in one process and in no time, in which things go wrong. `usage` says how it is begun. */
+#include "../duel/options.h"
 #include "trials.h"
 
 #include <stdarg.h>
@@ -50,7 +51,8 @@ static unsigned kind_of(uint32_t code) {
     case FAZGROND_LEFT:
     case FAZGROND_DISCONNECTED: return MAY_LEAVE;
     case FAZGROND_STALLED: return MAY_STALL;
-    case FAZGROND_MISSING: return MAY_MISS;
+    case FAZGROND_MISSING:
+    case FAZGROND_STRANGERS: return MAY_MISS;
     case FAZGROND_RESTARTED: return MAY_RESTART;
     case FAZGROND_REFUSED: return MAY_REFUSE;
     case FAZGROND_DESYNC: return MAY_DESYNC;
@@ -117,6 +119,8 @@ int main(int count, char **words) {
     bool is_found = count == 1;
     if (count > 1 && strcmp(words[1], "play") == 0)
         return trial_play(count - 1, words + 1);
+    if (is_help(words, usage))
+        return 0;
     if (count > 1 && strcmp(words[1], "shares") == 0)
         return trial_shares(count > 2 ? (uint32_t)atoi(words[2]) : 3, count > 3 ? (uint32_t)atoi(words[3]) : 1);
     for (size_t at = 0; at < sizeof trials / sizeof *trials; at++) {

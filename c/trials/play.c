@@ -113,6 +113,8 @@ static int fail(const char *why) {
 }
 
 int trial_play(int count, char **words) {
+    if (is_help(words, usage))
+        return 0;
     int at = read_options(words, options);
     if (count == 1)
         return fail("nothing is asked for");

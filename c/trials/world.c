@@ -344,12 +344,14 @@ static void tell(world *self, uint32_t who, const fazgrond_event *event) {
     fprintf(self->out, "%9.3f  machine %u: %s", (double)self->now / 1e6, who, world_name(event->code));
     if (event->code == FAZGROND_DISCONNECTED)
         fprintf(self->out, " player %u", event->player);
-    else if (event->code != FAZGROND_RUNNING && event->code != FAZGROND_DROPPED && event->code != FAZGROND_CUT_OFF)
+    else if (event->code != FAZGROND_RUNNING && event->code != FAZGROND_DROPPED && event->code < FAZGROND_CUT_OFF)
         fprintf(self->out, " machine %u", event->machine);
     if (event->code == FAZGROND_INTERRUPTED || event->code == FAZGROND_STALLED)
         fprintf(self->out, ", gone in %u", event->disconnect_in);
     if (event->code == FAZGROND_CUT_OFF)
         fprintf(self->out, ", over in %u", event->disconnect_in);
+    if (event->code == FAZGROND_STRANGERS)
+        fprintf(self->out, " %u", event->count);
     if (event->code == FAZGROND_MISMATCH)
         fprintf(self->out, ", field %u", event->field);
     if (event->code == FAZGROND_DESYNC)
@@ -544,8 +546,8 @@ const char *world_name(uint32_t code) {
     static const char *const ggpo[] = { "SYNCHRONIZING", "SYNCHRONIZED", "RUNNING", "DISCONNECTED", "TIME_SYNC", "INTERRUPTED",
                                         "RESUMED" };
     static const char *const own[] = { "LEFT", "DESYNC", "MISMATCH", "DROPPED", "RESTARTED", "STALLED", "REFUSED", "MISSING",
-                                       "CUT_OFF" };
+                                       "CUT_OFF", "STRANGERS" };
     if (code >= FAZGROND_SYNCHRONIZING && code <= FAZGROND_RESUMED)
         return ggpo[code - FAZGROND_SYNCHRONIZING];
-    return code >= FAZGROND_LEFT && code <= FAZGROND_CUT_OFF ? own[code - FAZGROND_LEFT] : "an event that isn't known";
+    return code >= FAZGROND_LEFT && code <= FAZGROND_STRANGERS ? own[code - FAZGROND_LEFT] : "an event that isn't known";
 }
