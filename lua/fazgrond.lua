@@ -1,9 +1,9 @@
 -- fazgrond.lua: rollback sessions for games in LuaJIT and LÖVE, over the shared library of C. docs/LUA.md shows a whole game.
 --
 -- What may be refused while all is well is answered by nil, the name of the refusal and its number: nil, "prediction_threshold",
--- 4. A call that no right program makes (of what is closed, or with an option that there isn't) is an error. Players are numbered
--- from 1, frames, machines and slots from 0, as in c/fazgrond.h, whose comments say what each call does. A word is a number from
--- 0 to 2^32 - 1; if it is below 0, it is taken for one of the bit library's.
+-- 4. A call that no right program makes (of what is closed, with an option that there isn't or a number that fits nowhere) is an
+-- error that names it. Players are numbered from 1, frames, machines and slots from 0, as in c/fazgrond.h, whose comments say what
+-- each call does. A word is a whole number from 0 to 2^32 - 1; if it is below 0, it is taken for one of the bit library's.
 local ffi = require "ffi"
 local bit = require "bit"
 local declared = require(((...) or ""):gsub("fazgrond$", "") .. "fazgrond_cdef")
@@ -84,13 +84,6 @@ function fazgrond.version()
     return version_text(lib.fazgrond_version())
 end
 
--- What an answer or the code of an event means, in a sentence; nil if there is no such number.
-function fazgrond.text(code)
-    need_library()
-    local length = tonumber(lib.fazgrond_text(code, bytes_out, DATAGRAM))
-    return length > 0 and ffi.string(bytes_out, length) or nil
-end
-
 -- 64 random bits, which aren't 0.
 function fazgrond.random_number()
     local file = io.open("/dev/urandom", "rb") or error("there is no /dev/urandom: say the `draw` yourself", 2)
@@ -138,14 +131,51 @@ local function written(code)
     return nil, answers[code], code
 end
 
--- 32 bits without a sign.
-local function u32(value)
-    return value >= 0 and value or value + 4294967296
+local function is_whole(value, least, most)
+    return type(value) == "number" and value % 1 == 0 and value >= least and value <= most
+end
+
+local function fails(name, value, what)
+    error(("`%s` is %s: %s"):format(name, tostring(value), what), 4)
+end
+
+-- A whole number, by the name that it is given by.
+local function u32(name, value, most, least)
+    local found = type(value) == "cdata" and tonumber(value) or value
+    if is_whole(found, least or 0, most or 4294967295) then
+        return found
+    end
+    fails(name, value, ("a whole number from %d to %.0f is needed"):format(least or 0, most or 4294967295))
+end
+
+-- One of 64 bits: LuaJIT's own, or one that a number of Lua has exactly.
+local function u64(name, value)
+    local is_own = ffi.istype("uint64_t", value) or ffi.istype("int64_t", value) and value >= 0
+    if is_own or is_whole(value, 0, 2 ^ 53) then
+        return value
+    end
+    fails(name, value, "a whole number from 0 to 2^53 is needed, or one of LuaJIT's 64 bits (7ULL)")
+end
+
+-- A digest, which may be one of the bit library's.
+local function digest_of(value)
+    return is_whole(value, -2147483648, -1) and value or u64("digest", value)
+end
+
+-- A word, as a number without a sign.
+local function word_of(name, value)
+    local found = u32(name, value, 4294967295, -2147483648)
+    return found >= 0 and found or found + 4294967296
+end
+
+-- One of a list. (Its name is made only if it is needed.)
+local function word_at(name, at, value)
+    return is_whole(value, 0, 4294967295) and value or word_of(("%s[%d]"):format(name, at), value)
 end
 
 -- A number of a player or machine.
 local function u8(value)
-    if value >= 0 and value < 256 then
+    if is_whole(value, 0, 255) then
         return value
     end
     error(("%s is no number of a player or machine"):format(tostring(value)), 3)
@@ -153,16 +183,58 @@ end
 
 -- Milliseconds of a clock that goes on for longer than 32 bits can say.
 local function milliseconds(now)
-    return now % 4294967296
+    local found = type(now) == "cdata" and tonumber(now) or now
+    if type(found) == "number" and found - found == 0 then -- (no infinity either)
+        return found % 4294967296
+    end
+    fails("now", now, "the milliseconds of a clock are needed")
+end
+
+-- Bytes, and how many they are.
+local function octets(name, bytes)
+    if type(bytes) == "string" then
+        return bytes, #bytes
+    end
+    fails(name, bytes, "a string is needed")
+end
+
+local function words_of(name, words)
+    local found = {}
+    for at = 1, #words do
+        found[at] = word_at(name, at, words[at])
+    end
+    return found
 end
 
 -- Words as C has them, and how many.
-local function array_of(words)
-    local array = ffi.new("uint32_t[?]", math.max(#words, 1))
-    for at, word in ipairs(words) do
-        array[at - 1] = u32(word)
+local function array_of(name, words)
+    return ffi.new("uint32_t[?]", math.max(#words, 1), words_of(name, words)), #words
+end
+
+-- Where a player stands in a list of C.
+local function place_of(player)
+    if is_whole(player, 1, PLAYERS) then
+        return player - 1
     end
-    return array, #words
+    error(("there is no player %s"):format(tostring(player)), 4)
+end
+
+-- Numbers by players. Who has none has another one.
+local function put_by_players(to, name, given, other, take)
+    for player in pairs(given or {}) do
+        place_of(player)
+    end
+    for player = 1, PLAYERS do
+        local value = given and given[player]
+        to[player - 1] = value == nil and other or (take or u32)(("%s[%d]"):format(name, player), value)
+    end
+end
+
+-- What an answer or the code of an event means, in a sentence; nil if there is no such number.
+function fazgrond.text(code)
+    need_library()
+    local length = tonumber(lib.fazgrond_text(u32("code", code, 2147483647), bytes_out, DATAGRAM))
+    return length > 0 and ffi.string(bytes_out, length) or nil
 end
 
 -- A row's words, player 1's first, and the bits of those who have left.
@@ -200,8 +272,17 @@ local function check_options(given, known, what)
         error(("%s: a table was expected"):format(what), 3)
     end
     for name in pairs(given) do
-        if not known[name] then
-            error(("%s have no `%s`"):format(what, tostring(name)), 3)
+        if not known.has[name] then
+            error(("%s have no `%s`, but %s"):format(what, tostring(name), known.names), 3)
+        end
+    end
+end
+
+-- An error if one is missing that is needed.
+local function check_needed(given, what, ...)
+    for _, name in ipairs { ... } do
+        if given[name] == nil then
+            error(("%s need `%s`"):format(what, name), 4)
         end
     end
 end
@@ -211,7 +292,7 @@ local function set_of(names)
     for name in names:gmatch "%S+" do
         set[name] = true
     end
-    return set
+    return { has = set, names = (names:gsub("%s+", ", ")) }
 end
 
 -- ---- What is open: a table with a handle, which closes by itself once nobody has it any more.
@@ -269,24 +350,20 @@ local PROFILES = { ggpo = numbers.GGPO, wide = numbers.WIDE }
 
 -- Settings as fazgrond_settings_for has them, with what the game says.
 local function settings_of(given)
-    local is_wide = given.players > 4
+    check_needed(given, "settings", "players", "locals")
+    local is_wide = u32("players", given.players) > 4
     local settings = ffi.new "fazgrond_settings"
     settings.size = ffi.sizeof(settings)
     settings.profile = PROFILES[given.profile or is_wide and "wide" or "ggpo"] or error("a profile is `ggpo` or `wide`", 3)
     settings.players = given.players
-    settings.threshold = given.threshold or is_wide and 15 or 8
-    settings.limit = given.limit or 1048576
-    settings.log = given.log or 16777216
-    for _, player in ipairs(given.locals or {}) do
-        if player < 1 or player > PLAYERS then
-            error(("there is no player %d"):format(player), 3)
-        end
-        settings["local"] = bit.bor(settings["local"], bit.lshift(1, player - 1))
+    settings.threshold = u32("threshold", given.threshold or is_wide and 15 or 8)
+    settings.limit = u32("limit", given.limit or 1048576)
+    settings.log = u32("log", given.log or 16777216)
+    for _, player in ipairs(given.locals) do
+        settings["local"] = bit.bor(settings["local"], bit.lshift(1, place_of(player)))
     end
-    for player = 1, PLAYERS do
-        settings.delays[player - 1] = given.delays and given.delays[player] or 0
-        settings.masks[player - 1] = u32(given.masks and given.masks[player] or -1)
-    end
+    put_by_players(settings.delays, "delays", given.delays, 0)
+    put_by_players(settings.masks, "masks", given.masks, 4294967295, word_of)
     return settings
 end
 
@@ -373,12 +450,12 @@ end
 
 -- A local player's word of this frame.
 function Session:add_local_input(player, word)
-    return done(lib.fazgrond_add_local_input(open(self), u8(player), u32(word)))
+    return done(lib.fazgrond_add_local_input(open(self), u8(player), word_of("word", word)))
 end
 
 -- A remote player's next word, for a game with a network of its own: true, and whether it was taken before.
 function Session:remote_input(player, frame, word)
-    local code = lib.fazgrond_remote_input(open(self), u8(player), frame, u32(word), number)
+    local code = lib.fazgrond_remote_input(open(self), u8(player), u32("frame", frame), word_of("word", word), number)
     if code == OK then
         return true, number[0] ~= 0
     end
@@ -410,12 +487,15 @@ function Session:advance_frame()
     return refused(code)
 end
 
--- Gives the words of the local players. One that was given already, since another's was refused after it, counts as it was.
+-- Gives the words of the local players, a list or the one word of all. One that was given already, since another's was refused after
+-- it, counts as it was.
 local function give(session, handle, words)
-    local code = OK
+    local code, given = OK, {}
+    for at in ipairs(session.locals) do
+        given[at] = type(words) == "table" and word_at("words", at, words[at]) or word_of("words", words)
+    end
     for at, player in ipairs(session.locals) do
-        local word = type(words) == "table" and words[at] or words
-        code = code == OK and lib.fazgrond_add_local_input(handle, player, u32(word)) or code
+        code = code == OK and lib.fazgrond_add_local_input(handle, player, given[at]) or code
         code = code == INPUT_TWICE and OK or code
     end
     return code
@@ -469,8 +549,8 @@ end
 -- "nothing" if all is kept already.
 function Session:guess(player, words, last)
     local handle = whole(self)
-    local array, count = array_of(words)
-    return job_of(self, lib.fazgrond_guess(handle, u8(player), array, count, last, number))
+    local array, count = array_of("words", words)
+    return job_of(self, lib.fazgrond_guess(handle, u8(player), array, count, u32("last", last), number))
 end
 
 -- Runs a job by a game that isn't the session's: its state is another one afterwards. (What has no game, another thread say, is
@@ -529,14 +609,66 @@ function Session:forget(job)
     return done(lib.fazgrond_forget(handle, job.number))
 end
 
+-- A frame of a sync test, whose state is saved in a slot: its digest.
+local function tested(run, words, slot)
+    local game = run.game
+    game:advance({ unpack(words) }, 0)
+    run.states[slot] = game:save(slot)
+    return game:digest(run.states[slot], slot)
+end
+
+-- Which of some frames is the first that comes out another. The states lie in the slots from 0 on, and those of frames that are run
+-- again in the one after.
+local function first_other(run, rows)
+    local game, states, digests, other = run.game, run.states, {}, nil
+    states[0] = game:save(0)
+    digests[0] = game:digest(states[0], 0)
+    for at, words in ipairs(rows) do
+        digests[at] = tested(run, words, at)
+    end
+    game:load(states[0], 0)
+    for at, words in ipairs(rows) do
+        if tested(run, words, #rows + 1) ~= digests[at] then
+            other = other or at - 1
+        end
+        free_state(run, #rows + 1)
+    end
+    for at = #rows, 0, -1 do
+        if game:digest(states[at], at) ~= digests[at] then
+            other = math.min(other or at, at)
+        end
+        free_state(run, at)
+    end
+    return other
+end
+
+-- A sync test: does a game come out the same when it is run again? It runs frames with these words (a list for each frame), `depth` at
+-- a time (8), goes back to the state before them and runs them once more. Answers the first frame that comes out another, or whose
+-- state before it has changed since it was saved; nil if there is none. The game needs its `digest`, and is afterwards at its last
+-- frame.
+function fazgrond.sync_test(game, rows, depth)
+    check_needed(game, "games", "save", "load", "advance", "digest")
+    depth = u32("depth", depth or 8, 4294967295, 1)
+    for first = 1, #rows, depth do
+        local some = {}
+        for frame = first, math.min(first + depth - 1, #rows) do
+            table.insert(some, words_of(("rows[%d]"):format(frame), rows[frame]))
+        end
+        local other = first_other({ game = game, states = {} }, some)
+        if other then
+            return first - 1 + other
+        end
+    end
+end
+
 -- From now on no state is saved in a slot from this one on.
 function Session:limit_slots(slots)
-    return done(lib.fazgrond_limit_slots(open(self), slots))
+    return done(lib.fazgrond_limit_slots(open(self), u32("slots", slots)))
 end
 
 -- Makes room for so many more events of the log.
 function Session:reserve_log(events)
-    return done(lib.fazgrond_reserve_log(open(self), events))
+    return done(lib.fazgrond_reserve_log(open(self), u32("events", events)))
 end
 
 -- The current frame.
@@ -551,7 +683,7 @@ end
 
 -- A settled row: its words, and the bits of those who have left.
 function Session:settled_row(frame)
-    return row_answered(lib.fazgrond_settled_row(open(self), frame, row_out))
+    return row_answered(lib.fazgrond_settled_row(open(self), u32("frame", frame), row_out))
 end
 
 -- The settled frame, the state after all settled rows, and its slot.
@@ -570,7 +702,7 @@ end
 
 -- The confirmed word of a player at a frame.
 function Session:confirmed_word(player, frame)
-    return answered(lib.fazgrond_confirmed_word(open(self), u8(player), frame, number))
+    return answered(lib.fazgrond_confirmed_word(open(self), u8(player), u32("frame", frame), number))
 end
 
 -- The frame in which a local player's next word counts.
@@ -590,7 +722,7 @@ end
 -- The entry at a place of the log, from 0: a table with `kind` ("local", "remote", "disconnect", "sync", "advance" or "graft"),
 -- `player`, `frame` and `word`.
 function Session:log_entry(place)
-    local code = lib.fazgrond_log_entry(open(self), place, entry_out)
+    local code = lib.fazgrond_log_entry(open(self), u32("place", place), entry_out)
     if code == OK then
         return entry_of(entry_out[0])
     end
@@ -599,7 +731,9 @@ end
 
 -- By how many frames this machine is behind the other one, and the other behind this one, if there is no peer.
 function Session:note_advantages(here, there)
-    return done(lib.fazgrond_note_advantages(open(self), here, there))
+    local least, most = -2147483648, 2147483647
+    local handle = open(self)
+    return done(lib.fazgrond_note_advantages(handle, u32("here", here, most, least), u32("there", there, most, least)))
 end
 
 -- How many frames this machine should wait.
@@ -626,28 +760,36 @@ end
 local MATCH = set_of [[me machines owners number numbers draw digest silent_after notify_after stalled_after words held_turns
     carries]]
 
-local function set_owners(owners, given)
-    for player = 1, PLAYERS do
-        owners[player - 1] = given[player] or numbers.NO_PLAYER
+-- The number of a match with a machine: that of `me`, and of those that there aren't, isn't read.
+local function number_with(given, machine)
+    local own = given.numbers and given.numbers[machine]
+    if own ~= nil then
+        return u64(("numbers[%d]"):format(machine), own)
+    elseif given.number ~= nil then
+        return u64("number", given.number)
+    elseif given.numbers == nil or machine < given.machines and machine ~= given.me then
+        error(("matches need `%s`"):format(given.numbers and ("numbers[%d]"):format(machine) or "number"), 5)
     end
+    return 0
 end
 
 -- A match as fazgrond_match_for has it, with what the game says.
 local function match_of(given)
+    check_needed(given, "matches", "me", "machines", "owners")
     local match = ffi.new "fazgrond_match"
     match.size = ffi.sizeof(match)
-    match.me, match.machines = given.me, given.machines
+    match.me, match.machines = u32("me", given.me), u32("machines", given.machines)
     for machine = 0, MACHINES - 1 do
-        match.numbers[machine] = given.numbers and given.numbers[machine] or given.number or 0
+        match.numbers[machine] = number_with(given, machine)
     end
-    set_owners(match.owners, given.owners)
-    match.draw = given.draw or fazgrond.random_number()
-    match.digest = given.digest or 0
-    match.silent_after = given.silent_after or 5000
-    match.notify_after = given.notify_after or 750
-    match.stalled_after = given.stalled_after or 0
-    match.words = given.words or 1
-    match.held_turns = given.held_turns or 0
+    put_by_players(match.owners, "owners", given.owners, numbers.NO_PLAYER)
+    match.draw = u64("draw", given.draw or fazgrond.random_number())
+    match.digest = digest_of(given.digest or 0)
+    match.silent_after = u32("silent_after", given.silent_after or numbers.SILENT_AFTER)
+    match.notify_after = u32("notify_after", given.notify_after or numbers.NOTIFY_AFTER)
+    match.stalled_after = u32("stalled_after", given.stalled_after or 0)
+    match.words = u32("words", given.words or 1)
+    match.held_turns = u32("held_turns", given.held_turns or 0)
     return match
 end
 
@@ -655,14 +797,13 @@ local EPOCH = set_of [[id base words threshold machines owners delays]]
 
 -- An epoch as C has it.
 local function epoch_of(given)
+    check_needed(given, "epochs", "threshold", "owners")
     local epoch = ffi.new "fazgrond_epoch"
     epoch.size = ffi.sizeof(epoch)
-    epoch.id, epoch.base = given.id or 0, given.base or 0
-    epoch.words, epoch.threshold = given.words or 1, given.threshold
-    set_owners(epoch.owners, given.owners)
-    for player = 1, PLAYERS do
-        epoch.delays[player - 1] = given.delays and given.delays[player] or 0
-    end
+    epoch.id, epoch.base = u64("id", given.id or 0), u64("base", given.base or 0)
+    epoch.words, epoch.threshold = u32("words", given.words or 1), u32("threshold", given.threshold)
+    put_by_players(epoch.owners, "owners", given.owners, numbers.NO_PLAYER)
+    put_by_players(epoch.delays, "delays", given.delays, 0)
     return epoch
 end
 
@@ -695,7 +836,9 @@ end
 
 -- Takes a datagram that came.
 function Peer:receive(bytes, now)
-    return done(lib.fazgrond_peer_receive(open(self), open(self.session), bytes, #bytes, milliseconds(now)))
+    local handle, beside = open(self), open(self.session)
+    local datagram, length = octets("bytes", bytes)
+    return done(lib.fazgrond_peer_receive(handle, beside, datagram, length, milliseconds(now)))
 end
 
 -- Once a turn, before the session's own calls.
@@ -746,7 +889,7 @@ function Peer:note_settled(digest)
         session.noted = frame
         digest = session.game:digest(state, slot)
     end
-    return done(lib.fazgrond_peer_note_settled(handle, beside, digest))
+    return done(lib.fazgrond_peer_note_settled(handle, beside, digest_of(digest)))
 end
 
 local OF_EVENT = { "code", "machine", "player", "count", "total", "frames_ahead", "disconnect_in", "frame", "field" }
@@ -792,17 +935,17 @@ end
 
 -- How many frames the session would have to run again, if the first so many words that wait were handed over.
 function Peer:rerun(count)
-    return answered(lib.fazgrond_peer_rerun(open(self), open(self.session), count, number))
+    return answered(lib.fazgrond_peer_rerun(open(self), open(self.session), u32("count", count), number))
 end
 
 -- A guess with all words that wait, up to the frame `last`: its job, as that of a session's guess.
 function Peer:guess(last)
-    return job_of(self.session, lib.fazgrond_peer_guess(open(self), whole(self.session), last, number))
+    return job_of(self.session, lib.fazgrond_peer_guess(open(self), whole(self.session), u32("last", last), number))
 end
 
 -- Hands the first so many words that wait over to the session, or all of them.
 function Peer:hand_over(count)
-    return done(lib.fazgrond_peer_hand_over(open(self), open(self.session), count or numbers.HELD_WORDS))
+    return done(lib.fazgrond_peer_hand_over(open(self), open(self.session), u32("count", count or numbers.HELD_WORDS)))
 end
 
 -- Once a turn: hands over the words that have waited for their turns, and answers how many they were.
@@ -823,6 +966,7 @@ end
 function fazgrond.epoch(match, settings)
     check_options(match, MATCH, "matches")
     check_options(settings, SETTINGS, "settings")
+    check_needed(match, "matches", "machines", "owners")
     local told = settings_of(settings)
     local epoch = { id = 0, base = 0, words = match.words or 1, threshold = told.threshold, machines = match.machines }
     epoch.owners, epoch.delays = {}, {}
@@ -867,15 +1011,10 @@ function Peer:mark(player, given)
     check_options(given, MARK, "marks")
     local mark = ffi.new "fazgrond_mark"
     mark.size = ffi.sizeof(mark)
-    mark.threshold, mark.ticket = given.threshold or 0, given.ticket or 0
-    for at = 1, PLAYERS do
-        mark.delays[at - 1] = given.delays and given.delays[at] or numbers.AS_BEFORE
-    end
+    mark.threshold, mark.ticket = u32("threshold", given.threshold or 0), u64("ticket", given.ticket or 0)
+    put_by_players(mark.delays, "delays", given.delays, numbers.AS_BEFORE)
     for _, comes in ipairs(given.comes or {}) do
-        if comes < 1 or comes > PLAYERS then
-            error(("there is no player %d"):format(comes), 2)
-        end
-        mark.comes[comes - 1] = 1
+        mark.comes[place_of(comes)] = 1
     end
     return done(lib.fazgrond_peer_mark(handle, session, u8(player), mark))
 end
@@ -926,13 +1065,14 @@ end
 local LINE = set_of [[number draw digest host machines owners silent_after]]
 
 local function line_settings_of(given)
+    check_needed(given, "lines", "number", "host", "machines", "owners")
     local settings = ffi.new "fazgrond_line_settings"
-    settings.number = given.number
-    settings.draw = given.draw or fazgrond.random_number()
-    settings.digest = given.digest or 0
-    settings.host, settings.machines = given.host, given.machines
-    set_owners(settings.owners, given.owners)
-    settings.silent_after = given.silent_after or 0
+    settings.number = u64("number", given.number)
+    settings.draw = u64("draw", given.draw or fazgrond.random_number())
+    settings.digest = digest_of(given.digest or 0)
+    settings.host, settings.machines = u32("host", given.host), u32("machines", given.machines)
+    put_by_players(settings.owners, "owners", given.owners, numbers.NO_PLAYER)
+    settings.silent_after = u32("silent_after", given.silent_after or numbers.SILENT_AFTER)
     return settings
 end
 
@@ -961,7 +1101,8 @@ function fazgrond.line(session, settings)
 end
 
 function Line:receive(bytes, now)
-    return done(lib.fazgrond_line_receive(open(self), bytes, #bytes, milliseconds(now)))
+    local handle, datagram, length = open(self), octets("bytes", bytes)
+    return done(lib.fazgrond_line_receive(handle, datagram, length, milliseconds(now)))
 end
 
 -- The datagram to send to the viewer in this turn; nil and "nothing" once the line has ended.
@@ -995,7 +1136,8 @@ end
 
 -- Takes a datagram that came of the host, and answers how many rows were taken from it.
 function Viewer:receive(bytes, now)
-    return answered(lib.fazgrond_viewer_receive(open(self), bytes, #bytes, milliseconds(now), number))
+    local handle, datagram, length = open(self), octets("bytes", bytes)
+    return answered(lib.fazgrond_viewer_receive(handle, datagram, length, milliseconds(now), number))
 end
 
 function Viewer:send(now)
@@ -1026,20 +1168,21 @@ end
 -- will probably give.
 function fazgrond.habits(parts, likely)
     local handle = new_handle "habits"
-    local masks, count = array_of(parts or {})
-    local words, more = array_of(likely or {})
+    local masks, count = array_of("parts", parts or {})
+    local words, more = array_of("likely", likely or {})
     return opened(Habits, handle, lib.fazgrond_habits_open(handle, masks, count, words, more))
 end
 
 -- Notes the player's next confirmed word, each once.
 function Habits:note(word)
-    return done(lib.fazgrond_habits_note(open(self), u32(word)))
+    return done(lib.fazgrond_habits_note(open(self), word_of("word", word)))
 end
 
 -- The best guesses, best first, if so many frames have no word of the player yet: tables with `words` and their `worth`.
 function Habits:guesses(frames, most)
     local best = {}
-    local count = lib.fazgrond_habits_guesses(open(self), frames, foreseen_out, math.min(most or MOST_GUESSES, MOST_GUESSES))
+    local handle, room = open(self), math.min(u32("most", most or MOST_GUESSES), MOST_GUESSES)
+    local count = lib.fazgrond_habits_guesses(handle, u32("frames", frames), foreseen_out, room)
     for at = 1, tonumber(count) do
         local foreseen, words = foreseen_out[at - 1], {}
         for place = 1, foreseen.count do
@@ -1066,7 +1209,7 @@ local function state_name_of(given)
     if #given.digest ~= numbers.DIGEST_BYTES then
         error("the digest of a state has 32 bytes", 3)
     end
-    name.which, name.frame, name.length = given.which, given.frame, given.length
+    name.which, name.frame, name.length = u64("which", given.which), u32("frame", given.frame), u32("length", given.length)
     ffi.copy(name.digest, given.digest, numbers.DIGEST_BYTES)
     return name
 end
@@ -1081,7 +1224,8 @@ end
 -- Opens who gives a state: a string, which is the state of a number of yours, and of a frame.
 function fazgrond.giver(which, frame, bytes)
     local handle = new_handle "giver"
-    return opened(Giver, handle, lib.fazgrond_giver_open(handle, which, frame, bytes, #bytes))
+    local state, length = octets("bytes", bytes)
+    return opened(Giver, handle, lib.fazgrond_giver_open(handle, u64("which", which), u32("frame", frame), state, length))
 end
 
 -- What its state is called: tell it those who are to take it.
@@ -1098,14 +1242,14 @@ end
 
 -- The datagram to send for the piece that bytes ask for at this place of their list, from 0; nil and "nothing" if there is none.
 function Giver:reply(match_number, me, bytes, place)
-    local handle = open(self)
-    return written(lib.fazgrond_giver_reply(handle, match_number, u8(me), bytes, #bytes, place, bytes_out, DATAGRAM, size))
+    local handle, shared, asked, length = open(self), u64("match_number", match_number), octets("bytes", bytes)
+    return written(lib.fazgrond_giver_reply(handle, shared, u8(me), asked, length, u32("place", place), bytes_out, DATAGRAM, size))
 end
 
 -- Opens who takes the state of this name, if it has no more bytes than `limit`.
 function fazgrond.taker(name, limit)
     local handle = new_handle "taker"
-    return opened(Taker, handle, lib.fazgrond_taker_open(handle, state_name_of(name), limit))
+    return opened(Taker, handle, lib.fazgrond_taker_open(handle, state_name_of(name), u32("limit", limit)))
 end
 
 -- What its state is called.
@@ -1124,12 +1268,14 @@ end
 
 -- The datagram that asks for the next missing pieces, so many at most; nil and "nothing" if none is missing.
 function Taker:send(match_number, me, most)
-    return written(lib.fazgrond_taker_send(open(self), match_number, u8(me), most, bytes_out, DATAGRAM, size))
+    local handle, shared = open(self), u64("match_number", match_number)
+    return written(lib.fazgrond_taker_send(handle, shared, u8(me), u32("most", most), bytes_out, DATAGRAM, size))
 end
 
 -- What came of a piece: "piece_taken", "piece_again", "state_whole" or "state_wrong", and the machine if one is named.
 function Taker:receive(match_number, bytes)
-    local code = lib.fazgrond_taker_receive(open(self), match_number, bytes, #bytes, heard_out)
+    local handle, shared, datagram, length = open(self), u64("match_number", match_number), octets("bytes", bytes)
+    local code = lib.fazgrond_taker_receive(handle, shared, datagram, length, heard_out)
     if code == OK then
         return HEARD[heard_out.what], heard_out.machine ~= numbers.NO_MACHINE and heard_out.machine or nil
     end
@@ -1156,7 +1302,8 @@ end
 -- Which machine sent a piece of a state or asks for some; nil and "nothing" if the datagram is for a peer.
 function fazgrond.state_sender(bytes)
     need_library()
-    local code = lib.fazgrond_state_sender(bytes, #bytes, machine_out)
+    local datagram, length = octets("bytes", bytes)
+    local code = lib.fazgrond_state_sender(datagram, length, machine_out)
     if code == OK then
         return machine_out[0]
     end
@@ -1166,18 +1313,20 @@ end
 -- A match's digest that has a state in it, beside what another has.
 function fazgrond.state_digest(name, digest)
     need_library()
-    return lib.fazgrond_state_digest(state_name_of(name), digest)
+    return lib.fazgrond_state_digest(state_name_of(name), digest_of(digest))
 end
 
 -- The datagram that asks what a state is called, and what the piece says that comes for it.
 function fazgrond.state_ask(match_number, me, which, frame)
     need_library()
-    return written(lib.fazgrond_state_ask(match_number, u8(me), which, frame, bytes_out, DATAGRAM, size))
+    local shared, state = u64("match_number", match_number), u64("which", which)
+    return written(lib.fazgrond_state_ask(shared, u8(me), state, u32("frame", frame), bytes_out, DATAGRAM, size))
 end
 
 function fazgrond.state_told(match_number, bytes)
     need_library()
-    return name_answered(lib.fazgrond_state_told(match_number, bytes, #bytes, name_out))
+    local shared, datagram, length = u64("match_number", match_number), octets("bytes", bytes)
+    return name_answered(lib.fazgrond_state_told(shared, datagram, length, name_out))
 end
 
 -- ---- Which numbers of datagrams were taken, for whoever encrypts them.
@@ -1193,12 +1342,12 @@ end
 
 -- Whether a number is new: it wasn't taken, and none was taken that is over 1,024 above it. Ask before you open the datagram.
 function Window:is_new(number)
-    return lib.fazgrond_window_is_new(self.inside, number) ~= 0
+    return lib.fazgrond_window_is_new(self.inside, u64("number", number)) ~= 0
 end
 
 -- Takes a number, if it is new, and says whether it was. Call it once the datagram is known to be genuine.
 function Window:note(number)
-    return lib.fazgrond_window_note(self.inside, number) ~= 0
+    return lib.fazgrond_window_note(self.inside, u64("number", number)) ~= 0
 end
 
 return fazgrond

@@ -3,7 +3,7 @@ local ffi = require "ffi"
 
 if not pcall(ffi.typeof, "fazgrond_session") then -- (this may be loaded more than once)
     ffi.cdef [[
-static const int FAZGROND_VERSION = 0x000102;
+static const int FAZGROND_VERSION = 0x000103;
 uint32_t fazgrond_version(void);
 size_t fazgrond_text(int32_t code, uint8_t *out, size_t room);
 static const int FAZGROND_PLAYERS = 8;
@@ -149,6 +149,8 @@ typedef struct fazgrond_peer {
 } fazgrond_peer;
 static const int FAZGROND_NO_PLAYER = 255;
 static const int FAZGROND_MACHINES = 8;
+static const int FAZGROND_SILENT_AFTER = 5000;
+static const int FAZGROND_NOTIFY_AFTER = 750;
 typedef struct fazgrond_match {
     uint32_t size;
     uint64_t numbers[8];
@@ -180,6 +182,7 @@ enum {
     FAZGROND_REFUSED = 1107,
     FAZGROND_MISSING = 1108,
     FAZGROND_CUT_OFF = 1109,
+    FAZGROND_STRANGERS = 1110,
 };
 typedef struct fazgrond_event {
     uint32_t code;
@@ -375,10 +378,12 @@ end
 
 return {
     numbers = {
-        VERSION = 258,
+        VERSION = 259,
         PLAYERS = 8,
         NO_PLAYER = 255,
         MACHINES = 8,
+        SILENT_AFTER = 5000,
+        NOTIFY_AFTER = 750,
         DATAGRAM = 1200,
         HELD_WORDS = 64,
         NOBODY = 254,
@@ -471,6 +476,7 @@ return {
         REFUSED = 1107,
         MISSING = 1108,
         CUT_OFF = 1109,
+        STRANGERS = 1110,
         PIECE_AGAIN = 1,
         PIECE_TAKEN = 2,
         STATE_WHOLE = 3,
@@ -545,5 +551,6 @@ return {
         [1107] = "refused",
         [1108] = "missing",
         [1109] = "cut_off",
+        [1110] = "strangers",
     },
 }

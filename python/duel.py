@@ -146,7 +146,7 @@ class Play:
             who = f"player {event.player}" if event.player else f"machine {event.machine}"
             self.told[who] = f"{who}: {text(event.code)}"
             print(self.told[who], file=sys.stderr)
-        self.is_over |= event.code in (Happened.DESYNC, Happened.MISMATCH, Happened.DROPPED)
+        self.is_over |= event.code in (Happened.DESYNC, Happened.MISMATCH, Happened.DROPPED, Happened.MISSING)
 
     @property
     def is_done(self) -> bool:
@@ -251,7 +251,8 @@ def run(play: Play, window: Window | None, speed: int) -> None:
 def options_of() -> argparse.Namespace:
     reader = argparse.ArgumentParser(usage=(__doc__ or "").partition(": ")[2].partition("\n")[0])
     told = {"bot": "plays by itself, by this seed", "frames": "ends once this frame is settled, and prints its state",
-            "delay": "local inputs count so many frames later", "timeout": "milliseconds after which a silent machine is gone",
+            "delay": "local inputs count so many frames later",
+            "timeout": "milliseconds after which a silent machine is gone, and the match over if one hasn't come",
             "match": "the number that the machines of this match know", "lag": "milliseconds by which what is sent comes late",
             "loss": "percent of it that are lost", "junk": "percent of it that come changed too",
             "speed": "how many times as fast"}

@@ -44,7 +44,7 @@ end
 
 local SAID = {
     synchronizing = ": there", synchronized = ": ready", left = " has left", interrupted = " is silent",
-    resumed = " is heard again", restarted = " was begun anew", stalled = " gives no words", missing = " isn't there", refused = " sends what is refused",
+    resumed = " is heard again", restarted = " was begun anew", stalled = " gives no words", refused = " sends what is refused",
 }
 
 local function say(event)

@@ -5,7 +5,7 @@ local rules = require "rules"
 
 local PAST_LAST = 32 -- frames after the last one, so that the others have all of it too
 local BYES = 3
-local OVER = { desync = true, mismatch = true, dropped = true }
+local OVER = { desync = true, mismatch = true, dropped = true, missing = true }
 
 -- What all machines of a match have alike, as c/ggponet has it: so this game and the program c/out/duel can play together.
 local function digest_of(players)

@@ -8,7 +8,7 @@ love lua/duel [OPTIONS] PORT PLAYER PLAYER [PLAYER [PLAYER]]    a duel of ships 
   --headless    no window; ships stay where they are without --bot
   --frames N    ends once frame N is settled, and prints its state
   --delay N     local inputs count N frames later (1)
-  --timeout MS  a machine that is silent so long is gone (5000)
+  --timeout MS  a machine that is silent so long is gone, and if one hasn't come by then, the match is over (5000)
   --match N     the number that the machines of this match know
   --lag MS --loss PERCENT    makes the line worse for what this machine sends
   --speed N     a clock that runs N times as fast

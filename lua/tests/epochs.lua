@@ -40,7 +40,10 @@ local function new_machine(me)
     is(peer:has_stayed(me), false)
     local line, viewer = assert(fazgrond.line(session, line_of(me, 21))), assert(fazgrond.viewer(line_of(me, 22)))
     is(select(2, line:send_before(peer, 0)), "nothing")
-    return { me = me, session = session, peer = peer, line = line, viewer = viewer, epochs = { peer:epoch() }, here = {}, coming = {} }
+    return {
+        me = me, session = session, peer = peer, line = line, viewer = viewer, is_watched = true, epochs = { peer:epoch() }, here = {},
+        coming = {},
+    }
 end
 
 -- The frame of the whole match.
@@ -64,9 +67,10 @@ local function tell_past(self)
     is(frame, tonumber(self.epochs[2].base))
 end
 
+-- Where somebody watches, what has come is played first, so that all rows are told of the epoch that may be over.
 local function go_on(self)
     local before = frame_of(self)
-    if self.session:has_news() then -- what has come is played first, so that all rows are told of the epoch that may be over
+    if self.is_watched and self.session:has_news() then
         assert(self.session:synchronize_input())
     end
     local frames, why = self.peer:go_on()
@@ -78,7 +82,7 @@ local function go_on(self)
     is(self.session:frame(), frames)
     is(frame_of(self), before)
     is(stayed(self.peer), "0 1")
-    if #self.epochs == 2 then
+    if self.is_watched and #self.epochs == 2 then
         tell_past(self)
     end
 end
@@ -116,23 +120,26 @@ local function take_turn(self, other, turn)
     local frame = frame_of(self)
     if self.peer:is_running() then
         mark(self, turn)
-        self.session:turn(frame < FRAMES and word_of(self.me + 1, frame) or nil)
+        is(select(2, self.session:turn(frame < FRAMES and word_of(self.me + 1, frame) or nil)) == "pending", false)
     end
     for event in self.peer:events() do
         is(event.name == "left" or event.name == "dropped" or event.name == "desync", false)
     end
     assert(self.peer:note_settled())
-    table.insert(other.coming, self.peer:send(other.me, now))
-    table.insert(other.coming, (self.peer:send_before(other.me, now)))
+    return { self.peer:send(other.me, now), (self.peer:send_before(other.me, now)) }
+end
+
+-- A turn of both, each of which hears what the other sent in the first turn that is on the way to it.
+local function both_play(all, turn)
+    for at, self in ipairs(all) do
+        self.here = table.remove(self.coming, 1) or {}
+        table.insert(all[3 - at].coming, take_turn(self, all[3 - at], turn))
+    end
 end
 
 local all, job = { new_machine(0), new_machine(1) }, nil
 for turn = 0, 599 do
-    for _, self in ipairs(all) do
-        self.here, self.coming = self.coming, {}
-    end
-    take_turn(all[1], all[2], turn)
-    take_turn(all[2], all[1], turn)
+    both_play(all, turn)
     if turn == 110 then
         job = assert(all[1].session:guess(2, { 77 }, all[1].session:frame() + 2))
     end
@@ -168,6 +175,26 @@ job:run(Sum.new(31, 1000003))
 is(select(2, all[1].session:graft(job)), "no_job")
 is(select(2, all[1].session:forget(job)), "no_job")
 is(all[1].session.game.state, alone.state)
+
+-- A seam needs no call before: its requests come in two parts, and none of them is left to the next call.
+for _, lag in ipairs { 1, 3, 5 } do
+    local late = { new_machine(0), new_machine(1) }
+    for _, self in ipairs(late) do
+        self.is_watched = false
+        for _ = 1, lag do
+            table.insert(self.coming, {})
+        end
+    end
+    for turn = 0, 399 do
+        both_play(late, turn)
+    end
+    for _, self in ipairs(late) do
+        is(#self.epochs, 3)
+        is(self.epochs[3].id, late[1].epochs[3].id)
+        is(tonumber(self.epochs[3].base) + self.session:settled(), FRAMES)
+        is(self.session.game.state, alone.state)
+    end
+end
 
 -- A match that doesn't go on in epochs.
 local session = assert(fazgrond.session({ players = 2, locals = { 1 } }, Sum.new(31, 1000003)))

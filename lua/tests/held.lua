@@ -13,7 +13,7 @@ local function new_machine(me, held_turns)
     local game = Sum.new(31, 1000003)
     local session = assert(fazgrond.session({ players = 2, locals = { me + 1 } }, game))
     local peer, why = fazgrond.peer(session, {
-        me = me, machines = 2, owners = { 0, 1 }, draw = 70 + me, silent_after = 0, held_turns = held_turns,
+        me = me, machines = 2, number = 7, owners = { 0, 1 }, draw = 70 + me, silent_after = 0, held_turns = held_turns,
     })
     return peer and { me = me, game = game, session = session, peer = peer }, why
 end

@@ -1,4 +1,5 @@
 -- What is refused, by which name; and what is an error, in which words.
+local bit = require "bit"
 local fazgrond = require "fazgrond"
 local Sum = require "sum"
 
@@ -66,6 +67,63 @@ fails("lines have no `me`", fazgrond.viewer, with(LINE, "me", 0))
 fails("lines have no `me`", fazgrond.line, session, with(LINE, "me", 0))
 fails("the library is loaded already", fazgrond.load, "elsewhere.so")
 is(fazgrond.load(), fazgrond)
+
+-- What can't be taken is an error by its name.
+local function opens(name, value)
+    return function()
+        return fazgrond.peer(session, with(MATCH, name, value))
+    end
+end
+
+fails("settings have no `local`, but players, locals", new_session, { ["local"] = { 1 } })
+fails("settings need `players`", fazgrond.session, { locals = { 1 } }, Sum.new(10, 10))
+fails("settings need `locals`", fazgrond.session, { players = 2 }, Sum.new(10, 10))
+fails("`players` is 1.5", new_session, { players = 1.5 })
+fails("there is no player 1.5", new_session, { locals = { 1.5 } })
+fails("`threshold` is -1", new_session, { threshold = -1 })
+fails("`limit` is 4294967296", new_session, { limit = 2 ^ 32 })
+fails("`delays[1]` is 0.5", new_session, { delays = { 0.5 } })
+fails("there is no player 9", new_session, { delays = { [9] = 1 } })
+fails("`masks[2]` is 4294967296", new_session, { masks = { 0, 2 ^ 32 } })
+for _, name in ipairs { "me", "machines", "owners", "number" } do
+    fails(("matches need `%s`"):format(name), fazgrond.peer, session, with(MATCH, name, nil))
+end
+fails("matches need `numbers[1]`", fazgrond.peer, session, with(with(MATCH, "number", nil), "numbers", { [0] = 7 }))
+fails("`number` is 1.5", opens("number", 1.5))
+fails("`number` is -7", opens("number", -7))
+fails("`number` is 1.3117684672949e+18", opens("number", 0x1234567890abcdef)) -- (without ULL it is no such number)
+fails("`number` is -7LL", opens("number", -7LL))
+fails("`numbers[1]` is seven", opens("numbers", { [1] = "seven" }))
+fails("`owners[2]` is -1", opens("owners", { 0, -1 }))
+fails("`words` is 1.5", opens("words", 1.5))
+fails("`silent_after` is 4294967296", opens("silent_after", 2 ^ 32))
+fails("`draw` is -1", opens("draw", -1))
+fails("epochs need `threshold`", fazgrond.peer, session, MATCH, { owners = { 0, 1 } })
+fails("`base` is -1", fazgrond.peer, session, MATCH, { owners = { 0, 1 }, threshold = 8, base = -1 })
+fails("lines need `number`", fazgrond.viewer, with(LINE, "number", nil))
+fails("`host` is 0.5", fazgrond.viewer, with(LINE, "host", 0.5))
+fails("`parts[1]` is 0.5", fazgrond.habits, { 0.5 })
+fails("`bytes` is nil", fazgrond.giver, 1, 0, nil)
+fails("`which` is -1", fazgrond.giver, -1, 0, "state")
+fails("`word` is 4294967296", session.add_local_input, session, 1, 2 ^ 32)
+fails("`word` is -2147483649", session.add_local_input, session, 1, -2 ^ 31 - 1)
+fails("`word` is nil", session.add_local_input, session, 1)
+fails("1.5 is no number of a player", session.add_local_input, session, 1.5, 0)
+fails("`words[1]` is nil", session.turn, session, {})
+fails("`words` is 1.5", session.turn, session, 1.5)
+fails("`words[2]` is 0.5", session.guess, session, 2, { 1, 0.5 }, 1)
+fails("`last` is -1", session.guess, session, 2, { 1 }, -1)
+fails("`frame` is 0.5", session.settled_row, session, 0.5)
+fails("`here` is 2147483648", session.note_advantages, session, 2 ^ 31, 0)
+local beside = assert(fazgrond.peer(session, MATCH))
+fails("`now` is nil", beside.poll, beside)
+fails("`now` is nan", beside.poll, beside, 0 / 0)
+fails("`bytes` is 7", beside.receive, beside, 7, 0)
+fails("`count` is 0.5", beside.hand_over, beside, 0.5)
+fails("`digest` is 0.5", beside.note_settled, beside, 0.5)
+is(beside:note_settled(bit.bnot(0)), true) -- (which is below 0)
+fails("there is no player 9", beside.mark, beside, 1, { comes = { 9 } })
+is(session:log_length(), 0)
 
 -- What a session refuses.
 refused("no_plan", session:claim())
@@ -296,7 +354,7 @@ gone:close()
 fails("the peer is closed", told.send_before, told, gone, 0)
 
 -- Sentences, and the version.
-is(fazgrond.version(), "0.1.2")
+is(fazgrond.version(), "0.1.3")
 for code in pairs(fazgrond.answers) do
     is(#fazgrond.text(code) > 1, true)
 end

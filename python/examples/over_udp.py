@@ -5,10 +5,12 @@ import time
 
 from digest import FRAMES, NUMBER, Digest, word_of
 
-from fazgrond import Happened, Match, Peer, Refused, Session, Settings
+from fazgrond import Happened, Match, Peer, Refused, Session, Settings, text
 
 PAST_LAST = 32  # turns past the end, so that the other has all of it too
 SPEED = 10  # how many times as fast it goes
+# What ends the match here. To a program that was begun again, and that its match doesn't take back, the other machine is missing.
+OVER = {Happened.MISSING, Happened.MISMATCH, Happened.DROPPED, Happened.DESYNC}
 
 
 def milliseconds() -> int:
@@ -21,7 +23,7 @@ def main(me: int, port: int, address: str, other_port: int) -> None:
     line.setblocking(False)
     other, wait, past = 1 - me, 0, 0
     with Session(Settings(players=2, local=[me + 1], limit=FRAMES), Digest()) as session, \
-            Peer(session, Match(me, machines=2, owners=[0, 1], number=NUMBER, silent_after=30000)) as peer:
+            Peer(session, Match(me, machines=2, owners=[0, 1], number=NUMBER, silent_after=100000)) as peer:
         while past < PAST_LAST:
             now = milliseconds()
             try:
@@ -38,7 +40,8 @@ def main(me: int, port: int, address: str, other_port: int) -> None:
             peer.turn(now)
             peer.note_settled(session.settled_state()[1])
             for event in peer.events():
-                assert event.code != Happened.DESYNC
+                if event.code in OVER:
+                    sys.exit(f"the match is over: {text(event.code)}")
                 wait = event.frames_ahead or wait
             datagram = peer.send(other, now)
             if datagram is not None:

@@ -7,13 +7,14 @@ import re
 import sys
 import threading
 import traceback
+from collections import Counter
 from pathlib import Path
 
 import recorder
 from fazgrond import (
     WINDOW_REACH, Answer, Ask, Call, Closed, Epoch, Giver, Habits, Handle, Happened, Kind, Line, LineSettings, Mark, Match, Peer,
-    Piece, Refused, RemoteWord, Row, Session, Settings, StateName, Taker, Viewer, Window, state_ask, state_sender, state_told, text,
-    version,
+    Piece, Refused, RemoteWord, Row, Session, Settings, StateName, Taker, Viewer, Window, state_ask, state_sender, state_told, sync_test,
+    text, version,
 )
 from fazgrond.numbers import VERSION
 
@@ -116,6 +117,89 @@ def words_that_are_refused():
             raises(OverflowError, session.add_local_input, player, word)
         raises(TypeError, session.add_local_input, 1, "7")
         raises(TypeError, session.add_local_input, 1, 1.5)
+
+
+def said_by(call):
+    """What a call says that is given what can't be taken."""
+    try:
+        return f"{call()} came back"
+    except (TypeError, ValueError, OverflowError) as why:
+        return str(why)
+
+
+def settings_by_name(session):
+    """Settings that can't be taken, and how the sentence begins that says so."""
+    match, line = {"me": 0, "machines": 2, "owners": [0, 1], "number": 7}, {"number": 8, "host": 0, "machines": 2, "owners": [0, 1]}
+    return [
+        ("`players` is 1.5", lambda: session_of(players=1.5)),
+        ("`local` is 1.5", lambda: session_of(1.5)),
+        ("`local` has 9", lambda: session_of(9)),
+        ("`threshold` is -1", lambda: session_of(threshold=-1)),
+        ("`limit` is 4294967296", lambda: session_of(limit=1 << 32)),
+        ("`delays[1]` is 0.5", lambda: session_of(delays={1: 0.5})),
+        ("`masks` has 0", lambda: session_of(masks={0: 1})),
+        ("`number` is 1.5", lambda: Peer(session, Match(**{**match, "number": 1.5}))),
+        ("`number[1]` is -7", lambda: Peer(session, Match(**{**match, "number": [0, -7]}))),
+        ("`owners[1]` is 'one'", lambda: Peer(session, Match(**{**match, "owners": [0, "one"]}))),
+        ("`words` is 1.5", lambda: Peer(session, Match(**match, words=1.5))),
+        ("`silent_after` is 4294967296", lambda: Peer(session, Match(**match, silent_after=1 << 32))),
+        ("`draw` is -1", lambda: Peer(session, Match(**match, draw=-1))),
+        ("`base` is -1", lambda: Peer(session, Match(**match), Epoch([0, 1], [0, 0], 8, base=-1))),
+        ("`delays[2]` is 0.5", lambda: Peer(session, Match(**match), Epoch([0, 1], [0, 0.5], 8))),
+        ("`host` is 0.5", lambda: Viewer(LineSettings(**{**line, "host": 0.5}))),
+        ("`digest` has 5 bytes", lambda: Taker(StateName(1, 0, 5, b"short"), 9)),
+        ("`parts[0]` is -1", lambda: Habits([-1])),
+    ]
+
+
+def arguments_by_name(session, peer):
+    """And arguments of calls."""
+    return [
+        ("`player` is 257", lambda: session.add_local_input(257, 0)),
+        ("`word` is -1", lambda: session.add_local_input(1, -1)),
+        ("`word` is 4294967296", lambda: session.remote_input(2, 0, 1 << 32)),
+        ("`frame` is None", lambda: session.settled_row(None)),
+        ("`words[1]` is 0.5", lambda: session.guess(2, [1, 0.5], 1)),
+        ("`until` is -1", lambda: session.guess(2, [1], -1)),
+        ("`local` is 2147483648", lambda: session.note_advantages(1 << 31, 0)),
+        ("`now` is 1.5", lambda: peer.turn(1.5)),
+        ("`now` is None", lambda: peer.send(1, None)),
+        ("`datagram` is of str", lambda: peer.hear("text", 0)),
+        ("`machine` is 256", lambda: peer.send(256, 0)),
+        ("`count` is -1", lambda: peer.hand_over(-1)),
+        ("`digest` is -1", lambda: peer.note_settled(-1)),
+        ("`comes` has 9", lambda: peer.mark(1, Mark(comes=[9]))),
+        ("`number` is 18446744073709551616", lambda: Window().note(1 << 64)),
+    ]
+
+
+@test
+def what_can_not_be_taken_is_said_by_its_name():
+    with session_of() as session, Peer(session, Match(0, 2, [0, 1], 7)) as peer:
+        for due, call in [*settings_by_name(session), *arguments_by_name(session, peer)]:
+            assert said_by(call).startswith(due), (due, said_by(call))
+        assert session.log_length() == 0
+    assert "'silentafter'" in said_by(lambda: Match(0, 2, [0, 1], 7, silentafter=500)) and "'number'" in said_by(lambda: Match(0, 2, [0, 1]))
+
+
+@test
+def times_of_which_nothing_is_said():
+    of, line = Match(0, 2, [0, 1], 7), LineSettings(8, 0, 2, [0, 1])
+    assert (of.silent_after, of.notify_after, of.stalled_after, line.silent_after) == (5000, 750, 0, 5000)
+
+
+@test
+def bytes_of_each_kind_are_taken():
+    """As what a socket receives into a buffer, and a part of that."""
+    for kind in [bytes, bytearray, lambda it: memoryview(b"---" + it)[3:], lambda it: memoryview(bytearray(it))]:
+        machines = machine(0), machine(1)
+        for turn in range(8):
+            for me, (_, peer) in enumerate(machines):
+                machines[1 - me][1].hear(kind(peer.send(1 - me, 16 * turn)), 16 * turn)
+                peer.poll(16 * turn)
+        assert all(peer.is_running for _, peer in machines)
+        assert Giver(1, 0, kind(b"state")).state() == b"state"
+        close(*machines)
 
 
 @test
@@ -277,22 +361,96 @@ def what_nobody_has_any_more_is_closed():
     assert recorder.opened - recorder.closed == before
 
 
-class Raises(Sum):
+class Fault(Exception):
+    pass
+
+
+class Raises:
+    """Two sums in a list. In some calls of one of its methods it raises in the midst of it, so that the list is half another one."""
+
+    def __init__(self):
+        self.state, self.calls, self.method, self.faults = [0, 0], Counter(), None, []
+
+    def called(self, method):
+        self.calls[method] += 1
+        if method == self.method and self.calls[method] in self.faults:
+            raise Fault
+
+    def save(self):
+        self.called("save")
+        return list(self.state)
+
+    def load(self, state):
+        self.state[0] = state[0]
+        self.called("load")
+        self.state[1] = state[1]
+
     def advance(self, row):
-        if row.words[0] == 13:
-            raise ZeroDivisionError
-        super().advance(row)
+        self.state[0] = (31 * self.state[0] + row.words[0] + 7 * row.words[1]) % 1000003
+        self.called("advance")
+        self.state[1] = (self.state[1] + self.state[0]) % 1009
+
+
+def raising(method, faults):
+    """Frames of a session, whose caller goes on wherever the game raises: how often it did, and what is there in the end."""
+    with Session(Settings(2, [1]), Raises()) as session:
+        game, raised = session.game, 0
+        game.method, game.faults, game.calls = method, faults, Counter()
+        for frame in range(16):
+            session.add_local_input(1, frame % 3)
+            if frame >= 3:
+                session.remote_input(2, frame - 3, frame * 7 % 5)
+            for call in [session.advance_frame, session.settled_state, session.synchronize_input]:
+                try:
+                    call()
+                except Fault:
+                    raised += 1
+        return raised, (session.frame, game.state, session.settled_state())
 
 
 @test
-def a_game_that_raises_is_left():
-    with Session(Settings(2, [1]), Raises()) as session:
-        give(session, 1, 1)
-        session.add_local_input(1, 13)
-        raises(ZeroDivisionError, session.advance_frame)
-        for call in [session.advance_frame, session.synchronize_input, session.settled_state, lambda: session.guess(2, [1], 1)]:
-            refused(Answer.PENDING, call)
-        assert session.settled == 0
+def a_game_that_raised_goes_on():
+    """As if it hadn't: whichever call of which method raised, and if it did so once more when that was carried out again."""
+    due = raising(None, [])
+    assert due[0] == 0 and due[1][0] == 16
+    for method in ["save", "load", "advance"]:
+        for faults in ([1], [1, 2]):
+            while (found := raising(method, faults))[0] > 0:
+                assert found == (len(faults), due[1]), (method, faults, found)
+                faults = [at + 1 for at in faults]
+            assert found == due and faults[0] > 10
+
+
+class Lends(Raises):
+    """It hands its own list out, which goes on to change."""
+
+    def save(self):
+        return self.state
+
+
+class Borrows(Raises):
+    """It goes on in the list that it was given."""
+
+    def load(self, state):
+        self.state = state
+
+
+class Hides(Raises):
+    """It has a counter beside its state, by which each hundredth step is another one."""
+
+    def advance(self, row):
+        super().advance(row)
+        self.state[0] += self.calls["advance"] % 100 == 0
+
+
+@test
+def a_game_that_does_not_come_out_the_same():
+    """The hundredth step is that of frame 51, for which frames are run twice, eight by eight."""
+    rows = [Row((frame * 7 % 5, frame * 3 % 4)) for frame in range(80)]
+    found = [sync_test(kind(), rows, tuple) for kind in [Raises, Lends, Borrows, Hides]]
+    assert found == [None, 0, 0, 51]
+    assert sync_test(Hides(), rows, tuple, 80) == 19 and sync_test(Hides(), rows[:20], tuple) is None
+    assert said_by(lambda: sync_test(Raises(), rows, tuple, 0)).startswith("`depth` is 0")
 
 
 @test
@@ -664,9 +822,9 @@ def who_does_not_carry_has_nothing_more_to_send():
 
 # ---- epochs
 
-def lasting(me):
+def lasting(me, game=Sum):
     settings, of = Settings(2, [me + 1]), Match(me, 2, [0, 1], 7, draw=70 + me, silent_after=0)
-    epoch, session = Epoch.first(of, settings), Session(settings, Sum())
+    epoch, session = Epoch.first(of, settings), Session(settings, game())
     assert epoch == Epoch([0, 1], [0, 0], 8, 1, 0, 0, 2)
     peer = Peer(session, of, epoch)
     assert peer.epoch() == epoch and stayed(peer) == []
@@ -687,13 +845,14 @@ def marks(peer, me, mark):
     refused(Answer.INVALID_PLAYER, peer.mark, 2 - me)
 
 
-def goes_on(session, peer, epochs):
-    """Goes on if an epoch is over, and says the frame of the whole match. Who asks to come isn't welcome."""
+def goes_on(session, peer, epochs, is_watched):
+    """Goes on if an epoch is over, and says the frame of the whole match. Who asks to come isn't welcome. If somebody watches, what has
+    come is played first, so that all rows are told of the epoch that may be over."""
     if (ask := peer.ask()) is not None:
         assert ask == Ask(2, 9, [1])
         peer.answer(ask.player, False)
-    before = epochs[-1].base + session.frame
-    if session.has_news:  # what has come is played first, so that all rows are told of the epoch that may be over
+    before = peer.epoch().base + session.frame
+    if is_watched and session.has_news:
         session.synchronize_input()
     if (frames := peer.go_on()) is not None:
         epochs.append(peer.epoch())
@@ -702,11 +861,11 @@ def goes_on(session, peer, epochs):
     return before
 
 
-def plays(session, peer, epochs, me, turn, frames):
+def plays(session, peer, epochs, me, turn, frames, is_watched):
     """A turn of a machine: what it sends to the other one."""
     now = 16 * turn
     peer.poll(now)
-    frame = goes_on(session, peer, epochs)
+    frame = goes_on(session, peer, epochs, is_watched)
     if peer.is_running and frame < frames:
         if turn in MARKS and MARKS[turn][0] == me:
             marks(peer, me, MARKS[turn][1])
@@ -719,14 +878,21 @@ def plays(session, peer, epochs, me, turn, frames):
     return [it for it in [peer.send(1 - me, now), peer.send_before(1 - me, now)] if it is not None]
 
 
-def both_play(machines, came, turn, frames):
+def both_play(machines, came, turn, frames, is_watched=True, plays=plays):
     """A turn of both machines: what they send each other."""
     ways = [[], []]
     for me, (session, peer, epochs) in enumerate(machines):
         for datagram in came[me]:
             peer.hear(datagram, 16 * turn)
-        ways[1 - me] += plays(session, peer, epochs, me, turn, frames)
+        ways[1 - me] += plays(session, peer, epochs, me, turn, frames, is_watched)
     return ways
+
+
+def late(machines, lag, turns, frames, plays=plays):
+    """They hear each other so many turns late, and make no call of the session between the poll and the seam."""
+    ways = [[[], []] for _ in range(lag)]
+    for turn in range(turns):
+        ways.append(both_play(machines, ways.pop(0), turn, frames, False, plays))
 
 
 @test
@@ -743,8 +909,60 @@ def a_match_goes_on_in_epochs():
     assert machines[0][2] == machines[1][2] and [it.threshold for it in machines[0][2]] == [8, 8, 6]
     for session, _, epochs in machines:
         assert (epochs[-1].base + session.settled, session.game.state) == (frames, due.state)
+    assert machines[0][0]._jobs == {}  # whose slots have other states now
     refused(Answer.NO_JOB, machines[0][0].graft, job.run(Sum()))
     close(*[it[:2] for it in machines])
+
+
+@test
+def a_seam_needs_no_call_before():
+    """The requests of a seam come in two parts, of which none is left to the next call."""
+    due = Sum()
+    for frame in range(200):
+        due.advance(Row(tuple(pressed(me, frame) for me in range(2))))
+    for lag in [1, 3, 5]:
+        machines = [lasting(0), lasting(1)]
+        late(machines, lag, 400, 200)
+        assert machines[0][2] == machines[1][2] and len(machines[0][2]) == 3
+        for session, _, epochs in machines:
+            assert (epochs[-1].base + session.settled, session.game.state) == (200, due.state)
+        close(*[it[:2] for it in machines])
+
+
+def raising_at_a_seam(method=None, faults=()):
+    """Two machines over a seam, of which the first one's game raises: how often it did, what is there in the end, and which calls of the
+    game were made in the turn of the seam."""
+    machines, raised, within = [lasting(0, Raises), lasting(1, Raises)], [], {}
+    game = machines[0][0].game
+    game.method, game.faults, game.calls = method, faults, Counter()
+
+    def may_raise(session, peer, epochs, *of):
+        before, count = Counter(game.calls), len(epochs)
+        try:
+            return plays(session, peer, epochs, *of)
+        except Fault:
+            raised.append(session)
+            return []
+        finally:
+            if session.game is game and len(epochs) > count:
+                within.update({it: range(before[it] + 1, game.calls[it] + 1) for it in game.calls})
+
+    late(machines, 3, 76, 60, may_raise)
+    found = [(it.settled_state(), it.game.state, [epoch.base for epoch in epochs]) for it, _, epochs in machines]
+    assert machines[0][2] == machines[1][2] and len(machines[0][2]) == 2
+    close(*[it[:2] for it in machines])
+    return len(raised), found, within
+
+
+@test
+def a_game_that_raised_at_a_seam_goes_on():
+    """It is told of the new epoch once it has carried out what was left, and comes to the same."""
+    none, due, within = raising_at_a_seam()
+    assert none == 0 and due[0] == due[1] and all(len(within[it]) > 0 for it in ["save", "load", "advance"])
+    for method, calls in within.items():
+        for call in calls:
+            count, found, _ = raising_at_a_seam(method, [call])
+            assert count == 1 and found[0][1:] == due[0][1:] == found[1][1:], (method, call, found)
 
 
 def told_past(line, viewer, peer):

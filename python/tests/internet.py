@@ -36,12 +36,12 @@ while min(came) < COUNT:
     for at, line in enumerate(lines):
         line.turn(int(time.monotonic() * 1000))
         while (signal := line.signal()) is not None:
-            assert lines[1 - at].signalled(signal)
+            assert lines[1 - at].signalled(bytearray(signal))
         while (heard := line.receive()) is not None:
             assert heard == datagram(came[at]), came
             came[at] += 1
     if sent < COUNT and all(line.look().stage == Stage.UP for line in lines):
-        assert all(line.send(datagram(sent)) for line in lines)
+        assert all(line.send(kind(datagram(sent))) for line, kind in zip(lines, [bytes, memoryview]))
         sent += 1
     time.sleep(0.001)
 seen = lines[0].look()

@@ -13,6 +13,7 @@ from .peer import Event, Match, Peer, RemoteWord, Stats
 from .rows import Entry, Reached, Request, Row
 from .session import Game, Job, Session
 from .state import Giver, Heard, StateName, Taker, TakerState, state_ask, state_sender, state_told
+from .sync import sync_test
 from .window import Window
 
 __all__ = [
@@ -21,7 +22,7 @@ __all__ = [
     "Foreseen", "Game", "Giver", "Habits", "Handle", "Happened", "Heard", "Job", "Kind", "Line", "LineSettings", "LineState",
     "Mark", "Match", "Peer", "Piece", "Plays", "Profile", "Reached", "Refused", "RemoteWord", "Request", "Row", "Session",
     "Settings", "StateName", "Stats", "Taker", "TakerState", "Viewer", "Window", "state_ask", "state_sender", "state_told",
-    "text", "version",
+    "sync_test", "text", "version",
 ]
 
 

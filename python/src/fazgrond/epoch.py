@@ -6,18 +6,12 @@ from dataclasses import dataclass, field
 from typing import TYPE_CHECKING, Any, NamedTuple
 
 from ._raw import ffi, lib
-from .handle import Settings, put_at
+from .given import place_of, put, put_owners, put_players, u64
+from .handle import Settings
 from .numbers import NO_PLAYER, NOBODY, PLAYERS
 
 if TYPE_CHECKING:
     from .peer import Match
-
-
-def put_owners(to: Any, owners: Sequence[int | None]) -> None:
-    if len(owners) > PLAYERS:
-        raise ValueError(f"{len(owners)} players have an owner")
-    for at, owner in enumerate(owners):
-        to[at] = NOBODY if owner is None else owner
 
 
 @dataclass
@@ -54,10 +48,9 @@ class Epoch:
         for at in range(PLAYERS):
             raw.owners[at] = NO_PLAYER
         put_owners(raw.owners, self.owners)
-        for at, frames in enumerate(self.delays):
-            raw.delays[at] = frames
-        for name in ["words", "threshold", "machines", "id", "base"]:
-            setattr(raw, name, getattr(self, name))
+        put_players(raw.delays, "delays", dict(enumerate(self.delays, 1)))
+        put(raw, self, "words threshold machines")
+        put(raw, self, "id base", u64)
         return raw
 
 
@@ -76,11 +69,11 @@ class Mark:
 
     def _raw(self) -> Any:
         raw = ffi.new("fazgrond_mark *", lib.fazgrond_mark_for())
-        raw.threshold, raw.ticket = self.threshold, self.ticket
-        for player, frames in self.delays.items():
-            put_at(raw.delays, player, frames)
+        put(raw, self, "threshold")
+        put(raw, self, "ticket", u64)
+        put_players(raw.delays, "delays", self.delays)
         for player in self.comes:
-            put_at(raw.comes, player, 1)
+            raw.comes[place_of("comes", player)] = 1
         return raw
 
 

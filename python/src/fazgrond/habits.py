@@ -6,6 +6,7 @@ from typing import NamedTuple
 
 from ._raw import ffi, lib
 from .errors import said
+from .given import u32, words
 from .owned import Owned
 
 _MOST = 32  # guesses that are worth making at once
@@ -27,17 +28,16 @@ class Habits(Owned):
 
     def __init__(self, parts: Sequence[int] = (), likely: Sequence[int] = ()) -> None:
         super().__init__("habits")
-        given = [ffi.new("uint32_t[]", list(it) or [0]) for it in (parts, likely)]
-        said(lib.fazgrond_habits_open(self._at(), given[0], len(parts), given[1], len(likely)))
+        said(lib.fazgrond_habits_open(self._at(), *words("parts", parts), *words("likely", likely)))
 
     def note(self, word: int) -> None:
         """Notes the player's next confirmed word. Tell each once, in the order of their frames."""
         with self._lock:
-            said(lib.fazgrond_habits_note(self._at(), word))
+            said(lib.fazgrond_habits_note(self._at(), u32("word", word)))
 
     def guesses(self, frames: int, most: int = _MOST) -> list[Foreseen]:
         """The best guesses of the player's next words, best first, if so many frames have no word of it yet."""
         best = ffi.new("fazgrond_foreseen[]", max(1, min(most, _MOST)))
         with self._lock:
-            count = lib.fazgrond_habits_guesses(self._at(), frames, best, max(0, min(most, _MOST)))
+            count = lib.fazgrond_habits_guesses(self._at(), u32("frames", frames), best, max(0, min(most, _MOST)))
         return [Foreseen(tuple(ffi.unpack(it.words, it.count)), it.worth) for it in best[0:count]]

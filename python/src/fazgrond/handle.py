@@ -7,7 +7,8 @@ from typing import TYPE_CHECKING, Any, Callable
 
 from ._raw import ffi, lib
 from .errors import Refused, said, said_or_nothing
-from .numbers import PLAYERS, Answer, Profile
+from .given import i32, place_of, put, put_players, u8, u32, u64, words as words_of
+from .numbers import Answer, Profile
 from .owned import Owned, whole
 from .rows import Entry, Reached, Request, Row, entry_of, request_of, row_of
 
@@ -31,26 +32,12 @@ class Settings:
     profile: Profile | None = None
 
     def _raw(self) -> Any:
-        raw = ffi.new("fazgrond_settings *", lib.fazgrond_settings_for(self.players))
-        raw.local = sum({1 << _place(player) for player in self.local})
-        for name in ["threshold", "limit", "log", "profile"]:
-            if getattr(self, name) is not None:
-                setattr(raw, name, getattr(self, name))
-        for player, frames in self.delays.items():
-            put_at(raw.delays, player, frames)
-        for player, bits in self.masks.items():
-            put_at(raw.masks, player, bits)
+        raw = ffi.new("fazgrond_settings *", lib.fazgrond_settings_for(u32("players", self.players)))
+        raw.local = sum({1 << place_of("local", player) for player in self.local})
+        put(raw, self, " ".join(it for it in ["threshold", "limit", "log", "profile"] if getattr(self, it) is not None))
+        put_players(raw.delays, "delays", self.delays)
+        put_players(raw.masks, "masks", self.masks)
         return raw
-
-
-def _place(player: int) -> int:
-    if not 1 <= player <= PLAYERS:
-        raise ValueError(f"there is no player {player}")
-    return player - 1
-
-
-def put_at(to: Any, player: int, value: int) -> None:
-    to[_place(player)] = value
 
 
 class Plays(Owned):
@@ -77,16 +64,16 @@ class Plays(Owned):
     def add_local_input(self, player: int, word: int) -> None:
         """Gives a local player's word of this frame."""
         with self._lock:
-            said(lib.fazgrond_add_local_input(self._at(), player, word))
+            said(lib.fazgrond_add_local_input(self._at(), u8("player", player), u32("word", word)))
 
     def remote_input(self, player: int, frame: int, word: int) -> bool:
         """Takes a remote player's next word, and says whether it is new. Beside a peer, the peer alone makes this call."""
-        return self._asked(lib.fazgrond_remote_input, player, frame, word) == 0
+        return self._asked(lib.fazgrond_remote_input, u8("player", player), u32("frame", frame), u32("word", word)) == 0
 
     def disconnect_player(self, player: int) -> None:
         """A remote player leaves. Beside a peer, the peer alone makes this call."""
         with self._lock:
-            said(lib.fazgrond_disconnect_player(self._at(), player))
+            said(lib.fazgrond_disconnect_player(self._at(), u8("player", player)))
 
     @property
     def has_news(self) -> bool:
@@ -106,7 +93,8 @@ class Plays(Owned):
     def settled_row(self, frame: int) -> Row | None:
         """The row of a frame, if it is settled."""
         with self._lock:
-            return row_of(self._row) if said_or_nothing(lib.fazgrond_settled_row(self._at(), frame, self._row)) else None
+            code = lib.fazgrond_settled_row(self._at(), u32("frame", frame), self._row)
+            return row_of(self._row) if said_or_nothing(code) else None
 
     def settled_slot(self) -> tuple[int, int]:
         """The settled frame, and the slot of the state after all settled rows, until the next call that leaves requests."""
@@ -116,25 +104,25 @@ class Plays(Owned):
 
     def confirmed(self, player: int) -> int:
         """How many words of a player are confirmed: the frame whose word must come next."""
-        return self._asked(lib.fazgrond_confirmed, player)
+        return self._asked(lib.fazgrond_confirmed, u8("player", player))
 
     def confirmed_word(self, player: int, frame: int) -> int | None:
         """The confirmed word of a player at a frame, if there is one."""
-        return self._asked_or_nothing(lib.fazgrond_confirmed_word, player, frame)
+        return self._asked_or_nothing(lib.fazgrond_confirmed_word, u8("player", player), u32("frame", frame))
 
     def input_frame(self, player: int) -> int:
         """The frame in which a local player's next word counts."""
-        return self._asked(lib.fazgrond_input_frame, player)
+        return self._asked(lib.fazgrond_input_frame, u8("player", player))
 
     def limit_slots(self, slots: int) -> None:
         """For a game with room for so many states: from now on nothing is saved in a slot from this one on."""
         with self._lock:
-            said(lib.fazgrond_limit_slots(self._at(), slots))
+            said(lib.fazgrond_limit_slots(self._at(), u32("slots", slots)))
 
     def reserve_log(self, events: int) -> None:
         """Makes room for so many more entries of the log."""
         with self._lock:
-            said(lib.fazgrond_reserve_log(self._at(), events))
+            said(lib.fazgrond_reserve_log(self._at(), u32("events", events)))
 
     def log_length(self) -> int:
         """How many entries the log has: all accepted calls, in their order."""
@@ -147,13 +135,15 @@ class Plays(Owned):
         """The entry at a place of the log, from 0."""
         entry = ffi.new("fazgrond_entry *")
         with self._lock:
-            return entry_of(entry) if said_or_nothing(lib.fazgrond_log_entry(self._at(), place, entry)) else None
+            code = lib.fazgrond_log_entry(self._at(), u64("place", place), entry)
+            return entry_of(entry) if said_or_nothing(code) else None
 
     def note_advantages(self, local: int, remote: int) -> None:
         """Notes by how many frames this machine is behind the other one, and the other behind this one. Beside a peer it isn't
         needed."""
         with self._lock:
-            said(lib.fazgrond_note_advantages(self._at(), local, remote))
+            told = i32("local", local), i32("remote", remote)
+            said(lib.fazgrond_note_advantages(self._at(), *told))
 
     @property
     def frames_ahead(self) -> int:
@@ -181,14 +171,13 @@ class Plays(Owned):
         return said_or_nothing(call(self._at(), frames))
 
     def _guessed(self, player: int, words: Sequence[int], until: int) -> int | None:
-        given = ffi.new("uint32_t[]", list(words) or [0])
-        return self._asked_or_nothing(lib.fazgrond_guess, player, given, len(words), until)
+        return self._asked_or_nothing(lib.fazgrond_guess, u8("player", player), *words_of("words", words), u32("until", until))
 
     def _guessed_waiting(self, peer: Peer, until: int) -> int | None:
         if peer.session is not self:  # it has another lock
             raise Refused(Answer.OTHER_SESSION)
         with self._lock:
-            return int(self._word[0]) if said_or_nothing(peer._guess(self, until, self._word)) else None
+            return int(self._word[0]) if said_or_nothing(peer._guess(self, u32("until", until), self._word)) else None
 
 
 class Handle(Plays):
@@ -227,12 +216,12 @@ class Handle(Plays):
 
     def graft(self, job: int) -> int:
         """Takes in the states of a job all of whose requests are carried out, and says how many of them are kept."""
-        return self._asked(lib.fazgrond_graft, job)
+        return self._asked(lib.fazgrond_graft, u32("job", job))
 
     def forget(self, job: int) -> None:
         """Gives a job up: none of its requests may be carried out any more."""
         with self._lock:
-            said(lib.fazgrond_forget(self._at(), job))
+            said(lib.fazgrond_forget(self._at(), u32("job", job)))
 
 
 def reached_of(reached: Any) -> Reached:

@@ -6,12 +6,12 @@ from dataclasses import dataclass
 from typing import Any, NamedTuple
 
 from ._raw import ffi, lib
-from .epoch import put_owners
 from .errors import Refused, said, said_or_nothing
+from .given import Octets, clock, octets, put, put_owners, u64
 from .handle import Plays
-from .numbers import NO_PLAYER, PLAYERS, Answer
+from .numbers import NO_PLAYER, PLAYERS, SILENT_AFTER, Answer
 from .owned import Owned, written
-from .peer import CLOCK, Peer, drawn
+from .peer import Peer, drawn
 from .rows import Row, row_of
 
 
@@ -28,16 +28,16 @@ class LineSettings:
     machines: int
     owners: Sequence[int]
     digest: int = 0
-    silent_after: int = 5000  # milliseconds after which the other end is silent that answers nothing; 0: it never is
+    silent_after: int = SILENT_AFTER  # 5,000: milliseconds after which the other end is silent that answers nothing; 0: it never is
     draw: int | None = None
 
     def _raw(self) -> Any:
         raw = ffi.new("fazgrond_line_settings *")
         put_owners(raw.owners, [NO_PLAYER] * PLAYERS)
         put_owners(raw.owners, self.owners)
-        raw.draw = drawn() if self.draw is None else self.draw
-        for name in ["number", "host", "machines", "digest", "silent_after"]:
-            setattr(raw, name, getattr(self, name))
+        raw.draw = drawn() if self.draw is None else u64("draw", self.draw)
+        put(raw, self, "number digest", u64)
+        put(raw, self, "host machines silent_after")
         return raw
 
 
@@ -65,16 +65,16 @@ class Line(Owned):
         with self._lock:
             said(lib.fazgrond_line_open(self._at(), settings._raw()))
 
-    def receive(self, datagram: bytes, now: int) -> None:
+    def receive(self, datagram: Octets, now: int) -> None:
         """Takes a datagram that came of the viewer."""
         with self._lock:
-            said(lib.fazgrond_line_receive(self._at(), datagram, len(datagram), now & CLOCK))
+            said(lib.fazgrond_line_receive(self._at(), *octets("datagram", datagram), clock(now)))
 
     def send(self, now: int) -> bytes | None:
         """The datagram to send to the viewer in this turn. None once the line has ended."""
         with self._lock:
-            line, session = self._at(), self.session._at()
-            return written(lambda out, room, length: lib.fazgrond_line_send(line, session, now & CLOCK, out, room, length))
+            told = self._at(), self.session._at(), clock(now)
+            return written(lambda out, room, length: lib.fazgrond_line_send(*told, out, room, length))
 
     def send_before(self, peer: Peer, now: int) -> bytes | None:
         """The same of a line of the epoch before, in a match that goes on in epochs: `peer` is that of the line's session. Rows are
@@ -83,8 +83,8 @@ class Line(Owned):
         if peer.session is not self.session:  # it has another lock
             raise Refused(Answer.OTHER_SESSION)
         with self._lock:
-            line, beside = self._at(), peer._at()
-            return written(lambda out, room, length: lib.fazgrond_line_send_before(line, beside, now & CLOCK, out, room, length))
+            told = self._at(), peer._at(), clock(now)
+            return written(lambda out, room, length: lib.fazgrond_line_send_before(*told, out, room, length))
 
     def bye(self) -> bytes | None:
         """The datagram that says that the host leaves the viewer: the line has ended. None if nobody is to be told."""
@@ -96,7 +96,7 @@ class Line(Owned):
         """How far the two ends are."""
         seen = ffi.new("fazgrond_line_state *")
         with self._lock:
-            said(lib.fazgrond_line_look(self._at(), now & CLOCK, seen))
+            said(lib.fazgrond_line_look(self._at(), clock(now), seen))
         return state_of(seen)
 
 
@@ -108,18 +108,18 @@ class Viewer(Owned):
         self._row = ffi.new("fazgrond_row *")
         said(lib.fazgrond_viewer_open(self._at(), settings._raw()))
 
-    def receive(self, datagram: bytes, now: int) -> int:
+    def receive(self, datagram: Octets, now: int) -> int:
         """Takes a datagram that came of the host, and says how many rows were taken from it."""
         rows = ffi.new("uint32_t *")
         with self._lock:
-            said(lib.fazgrond_viewer_receive(self._at(), datagram, len(datagram), now & CLOCK, rows))
+            said(lib.fazgrond_viewer_receive(self._at(), *octets("datagram", datagram), clock(now), rows))
         return int(rows[0])
 
     def send(self, now: int) -> bytes | None:
         """The datagram to send to the host in this turn. None once the line has ended."""
         with self._lock:
-            viewer = self._at()
-            return written(lambda out, room, length: lib.fazgrond_viewer_send(viewer, now & CLOCK, out, room, length))
+            viewer, at = self._at(), clock(now)
+            return written(lambda out, room, length: lib.fazgrond_viewer_send(viewer, at, out, room, length))
 
     def bye(self) -> bytes | None:
         """The datagram that says that the viewer leaves: the line has ended. None if nobody is to be told."""
@@ -141,5 +141,5 @@ class Viewer(Owned):
         """How far the two ends are."""
         seen = ffi.new("fazgrond_line_state *")
         with self._lock:
-            said(lib.fazgrond_viewer_look(self._at(), now & CLOCK, seen))
+            said(lib.fazgrond_viewer_look(self._at(), clock(now), seen))
         return state_of(seen)

@@ -1,10 +1,12 @@
 """The library's numbers. It is written by python/declare; fazgrond.h says what each means."""
 from enum import IntEnum
 
-VERSION = 0x000102
+VERSION = 0x000103
 PLAYERS = 8
 NO_PLAYER = 255
 MACHINES = 8
+SILENT_AFTER = 5000
+NOTIFY_AFTER = 750
 DATAGRAM = 1200
 HELD_WORDS = 64
 NOBODY = 254
@@ -122,6 +124,7 @@ class Happened(IntEnum):
     REFUSED = 1107
     MISSING = 1108
     CUT_OFF = 1109
+    STRANGERS = 1110
 
 
 class Piece(IntEnum):

@@ -14,6 +14,7 @@ from typing import Any
 from cffi import FFI  # type: ignore[import]
 
 from ._line import CDEF
+from .given import Octets
 
 ffi = FFI()
 ffi.cdef(CDEF)
@@ -100,13 +101,15 @@ class Line:
         """The next signal to carry to the other machine."""
         return self._told(lib.faz_line_signal)
 
-    def signalled(self, signal: bytes) -> bool:
+    def signalled(self, signal: Octets) -> bool:
         """Takes a signal of the other machine's. False: it made no such signal."""
-        return bool(lib.faz_line_signalled(self._line, signal, len(signal)))
+        given = ffi.from_buffer("uint8_t[]", signal)
+        return bool(lib.faz_line_signalled(self._line, given, len(given)))
 
-    def send(self, datagram: bytes) -> bool:
+    def send(self, datagram: Octets) -> bool:
         """Sends a datagram of 1,200 bytes at most. False: it is lost."""
-        return bool(lib.faz_line_send(self._line, datagram, len(datagram)))
+        given = ffi.from_buffer("uint8_t[]", datagram)
+        return bool(lib.faz_line_send(self._line, given, len(given)))
 
     def receive(self) -> bytes | None:
         """The next datagram that came."""

@@ -7,16 +7,14 @@ from dataclasses import dataclass, fields
 from typing import Any, NamedTuple
 
 from ._raw import ffi, lib
-from .epoch import Ask, Epoch, Mark, ask_of, put_owners
+from .epoch import Ask, Epoch, Mark, ask_of
 from .errors import Refused, said, said_or_nothing
+from .given import Octets, clock, octets, put, put_owners, u8, u32, u64
 from .handle import Plays
-from .numbers import HELD_WORDS, MACHINES, Answer, Happened
+from .numbers import HELD_WORDS, MACHINES, NOTIFY_AFTER, SILENT_AFTER, Answer, Happened
 from .owned import Owned, written
 from .rows import Reached
 from .session import Session
-
-CLOCK = 0xFFFFFFFF  # a clock's milliseconds wrap
-
 
 def drawn() -> int:
     """64 bits of the system's random source, and never 0."""
@@ -36,8 +34,8 @@ class Match:
     owners: Sequence[int]
     number: int | Sequence[int]
     digest: int = 0  # of all else that has to be alike at all machines
-    silent_after: int = 5000  # milliseconds after which a machine is gone that answers nothing; 0: it never is
-    notify_after: int = 750  # after which INTERRUPTED and STALLED tell of one; 0: neither is told
+    silent_after: int = SILENT_AFTER  # 5,000: milliseconds after which a machine is gone that answers nothing; 0: it never is
+    notify_after: int = NOTIFY_AFTER  # 750: after which INTERRUPTED and STALLED tell of one; 0: neither is told
     stalled_after: int = 0  # after which a machine is gone that gives no words; 0: it never is
     words: int = 1  # of how many words a player's input is, 1 to 4
     held_turns: int = 0  # for how many turns others' words wait beside the session, 1 to 8; 0: they don't
@@ -45,18 +43,18 @@ class Match:
     draw: int | None = None
 
     def _raw(self) -> Any:
-        raw = ffi.new("fazgrond_match *", lib.fazgrond_match_for(self.machines, self.me))
-        if isinstance(self.number, int):
-            lib.fazgrond_one_number(raw, self.number)
+        raw = ffi.new("fazgrond_match *", lib.fazgrond_match_for(u32("machines", self.machines), u32("me", self.me)))
+        if not isinstance(self.number, Sequence):
+            lib.fazgrond_one_number(raw, u64("number", self.number))
         elif len(self.number) > MACHINES:
-            raise ValueError(f"numbers of {len(self.number)} machines")
+            raise ValueError(f"`number` has those of {len(self.number)} machines: {MACHINES} are the most")
         else:
             for at, number in enumerate(self.number):
-                raw.numbers[at] = number
+                raw.numbers[at] = u64(f"number[{at}]", number)
         put_owners(raw.owners, self.owners)
-        raw.draw = drawn() if self.draw is None else self.draw
-        for name in ["digest", "silent_after", "notify_after", "stalled_after", "words", "held_turns"]:
-            setattr(raw, name, getattr(self, name))
+        raw.draw = drawn() if self.draw is None else u64("draw", self.draw)
+        put(raw, self, "digest", u64)
+        put(raw, self, "silent_after notify_after stalled_after words held_turns")
         return raw
 
 
@@ -130,23 +128,27 @@ class Peer(Owned):
         else:
             said((lib.fazgrond_peer_open_carrying if match.carries else lib.fazgrond_peer_open)(*of))
 
-    def receive(self, datagram: bytes, now: int) -> None:
+    def receive(self, datagram: Octets, now: int) -> None:
         """Takes a datagram that came, and gives the session the words in it. What is refused has changed nothing but what is
         counted and told of its sender."""
         with self._lock:
-            said(lib.fazgrond_peer_receive(self._at(), self.session._at(), datagram, len(datagram), now & CLOCK))
+            said(self._heard(datagram, now))
 
-    def hear(self, datagram: bytes, now: int) -> bool:
+    def hear(self, datagram: Octets, now: int) -> bool:
         """As `receive`, for what may come of anybody: whether it was taken."""
         with self._lock:
-            return not lib.fazgrond_peer_receive(self._at(), self.session._at(), datagram, len(datagram), now & CLOCK)
+            return self._heard(datagram, now) == Answer.OK
+
+    def _heard(self, datagram: Octets, now: int) -> int:
+        code: int = lib.fazgrond_peer_receive(self._at(), self.session._at(), *octets("datagram", datagram), clock(now))
+        return code
 
     def poll(self, now: int) -> None:
         """What a turn does before it plays: machines that were silent too long are gone, players of who is gone leave the
         session, and the match begins once all machines are there. If the session refuses a player's leaving, the next poll tries
         again."""
         with self._lock:
-            said(lib.fazgrond_peer_poll(self._at(), self.session._at(), now & CLOCK))
+            said(lib.fazgrond_peer_poll(self._at(), self.session._at(), clock(now)))
 
     def turn(self, now: int) -> Reached | None:
         """A turn of the main loop: a `poll`, and once the match has begun, the session goes on to its next frame if its local
@@ -178,8 +180,8 @@ class Peer(Owned):
         """The datagram to send to a machine in this turn. None if it is gone, or this one, or there is no such machine; and if what
         this one has for it goes by `send_more`."""
         with self._lock:
-            peer, session, now = self._at(), self.session._at(), now & CLOCK
-            return written(lambda out, room, length: lib.fazgrond_peer_send(peer, session, machine, now, out, room, length))
+            told = self._at(), self.session._at(), u8("machine", machine), clock(now)
+            return written(lambda out, room, length: lib.fazgrond_peer_send(*told, out, room, length))
 
     def send_more(self) -> tuple[int, bytes] | None:
         """Once `send` was called for each other machine, what a peer that carries has to send besides in this turn: a machine, and the
@@ -193,18 +195,18 @@ class Peer(Owned):
         """The datagram that says to a machine that this one leaves the match. Send each a few times. None if there is nobody to
         tell."""
         with self._lock:
-            peer = self._at()
-            return written(lambda out, room, length: lib.fazgrond_peer_bye(peer, machine, out, room, length))
+            peer, to = self._at(), u8("machine", machine)
+            return written(lambda out, room, length: lib.fazgrond_peer_bye(peer, to, out, room, length))
 
     def disconnect(self, machine: int) -> None:
         """Regards a machine as gone, for good. Its players leave the session at a later `poll`."""
         with self._lock:
-            said(lib.fazgrond_peer_disconnect(self._at(), machine))
+            said(lib.fazgrond_peer_disconnect(self._at(), u8("machine", machine)))
 
     def note_settled(self, digest: int) -> None:
         """Notes the game's own digest of the session's settled state, by which the machines see that they play alike."""
         with self._lock:
-            said(lib.fazgrond_peer_note_settled(self._at(), self.session._at(), digest))
+            said(lib.fazgrond_peer_note_settled(self._at(), self.session._at(), u64("digest", digest)))
 
     def event(self) -> Event | None:
         """What happened, the oldest first. The oldest is dropped if more than 64 wait."""
@@ -223,7 +225,7 @@ class Peer(Owned):
         """What was counted and measured of a machine. None if there is no such machine."""
         seen = ffi.new("fazgrond_stats *")
         with self._lock:
-            code = lib.fazgrond_peer_stats(self._at(), machine, seen)
+            code = lib.fazgrond_peer_stats(self._at(), u8("machine", machine), seen)
         if code == Answer.INVALID_MACHINE or not said_or_nothing(code):
             return None
         return Stats(bool(seen.is_measured), *[getattr(seen, name) for name in Stats._fields[1:]])
@@ -247,7 +249,7 @@ class Peer(Owned):
 
     def rerun(self, count: int = HELD_WORDS) -> int:
         """How many frames the session would have to run again, if the first so many words that wait were handed over."""
-        return self._counted(lib.fazgrond_peer_rerun, count)
+        return self._counted(lib.fazgrond_peer_rerun, u32("count", count))
 
     def _guess(self, session: Plays, until: int, job: Any) -> int:
         """The answer to a guess with all words that wait, of which a session or handle makes a job."""
@@ -257,7 +259,7 @@ class Peer(Owned):
     def hand_over(self, count: int = HELD_WORDS) -> None:
         """Hands the first so many words that wait over to the session, or all if there are fewer."""
         with self._lock:
-            said(lib.fazgrond_peer_hand_over(self._at(), self.session._at(), count))
+            said(lib.fazgrond_peer_hand_over(self._at(), self.session._at(), u32("count", count)))
 
     def hand_over_due(self) -> int:
         """Once a turn: hands over the words that have waited for their turns, and says how many they were."""
@@ -279,13 +281,14 @@ class Peer(Owned):
         """Whether a machine is in this epoch and was in the one before, and hasn't come in with this one. False of each in the epoch with
         which the peer was opened, and if the match doesn't go on in epochs."""
         with self._lock:
-            return said_or_nothing(lib.fazgrond_peer_has_stayed(self._at(), machine, self._word)) and bool(self._word[0])
+            code = lib.fazgrond_peer_has_stayed(self._at(), u8("machine", machine), self._word)
+            return said_or_nothing(code) and bool(self._word[0])
 
     def mark(self, player: int, mark: Mark | None = None) -> None:
         """Puts a mark on the next word that a player of this machine gives: the epoch ends after that frame. If another machine's mark
         ends it before, this one is forgotten."""
         with self._lock:
-            said(lib.fazgrond_peer_mark(self._at(), self.session._at(), player, (mark or Mark())._raw()))
+            said(lib.fazgrond_peer_mark(self._at(), self.session._at(), u8("player", player), (mark or Mark())._raw()))
 
     def ask(self) -> Ask | None:
         """Who asks to come by a mark, and wasn't answered yet: the epoch doesn't end before."""
@@ -297,7 +300,7 @@ class Peer(Owned):
         """Says whether whoever is to come by this player's mark is welcome. All machines of the match have to say the same: go by the
         ticket alone. Nothing happens if the match doesn't go on in epochs."""
         with self._lock:
-            said_or_nothing(lib.fazgrond_peer_answer(self._at(), player, is_welcome))
+            said_or_nothing(lib.fazgrond_peer_answer(self._at(), u8("player", player), bool(is_welcome)))
 
     def go_on(self) -> int | None:
         """Goes on in the next epoch if this one is over, after `poll` in each turn: at what frame of it the session is. None if this
@@ -309,10 +312,10 @@ class Peer(Owned):
         with self._lock:
             peer, frames = self._at(), self._frames
             has_begun = self.session._gone_on(lambda session, out: lib.fazgrond_peer_go_on(peer, session, out), frames)
-            return int(frames[0]) if has_begun else None
+            return self.session.frame if has_begun else None
 
     def send_before(self, machine: int, now: int) -> bytes | None:
         """What is to be sent, after `send`, to a machine that may still be in the epoch before. None if there is nothing."""
         with self._lock:
-            peer, now = self._at(), now & CLOCK
-            return written(lambda out, room, length: lib.fazgrond_peer_send_before(peer, machine, now, out, room, length))
+            told = self._at(), u8("machine", machine), clock(now)
+            return written(lambda out, room, length: lib.fazgrond_peer_send_before(*told, out, room, length))

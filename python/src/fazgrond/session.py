@@ -2,7 +2,7 @@
 from __future__ import annotations
 
 import weakref
-from collections.abc import Sequence
+from collections.abc import Iterator, Sequence
 from typing import TYPE_CHECKING, Any, Callable, Generic, Protocol, TypeVar
 
 from ._raw import lib
@@ -17,6 +17,7 @@ if TYPE_CHECKING:
 S = TypeVar("S")
 T = TypeVar("T")
 
+_OK = int(Answer.OK)
 _LOAD, _SAVE, _STEP = int(Kind.LOAD), int(Kind.SAVE), int(Kind.STEP)
 _JOB_LOAD, _JOB_STEP = int(Kind.JOB_LOAD), int(Kind.JOB_STEP)
 
@@ -62,8 +63,8 @@ class Job(Generic[S]):
 class Session(Plays, Generic[S]):
     """An open session that plays a game: after each roll the game's current state is that of the current frame.
 
-    If a method of the game raises, the game is left between two frames, and each further roll, guess and graft is refused with
-    `Answer.PENDING`.
+    If a method of the game raises, the game is left between two frames. The next call that rolls, makes a guess, grafts or asks for a
+    state carries out first what is left, that method again among it: a frame from the state before it. So does `Peer.turn`.
     """
 
     def __init__(self, settings: Settings, game: Game[S]) -> None:
@@ -71,7 +72,13 @@ class Session(Plays, Generic[S]):
         self.game = game
         self._slots: list[Any] = [game.save()]
         self._jobs: dict[int, tuple[list[int], weakref.ref[Job[S]]]] = {}
-        self._is_whole = True
+        self._request: Any = None  # the one that is to be carried out, and those after it
+        self._left: Iterator[Any] = iter(())
+        self._is_rolling = False
+        self._is_torn = False  # whether the game raised within a frame
+        self._saved: S = self._slots[0]  # the last state that was saved or loaded, and the rows that were played since
+        self._rows: list[Row] = []
+        self._has_begun = False  # whether a peer is to be told still that an epoch has begun
 
     def synchronize_input(self) -> Row:
         """The row of this frame, after a rollback if a prediction was wrong."""
@@ -129,34 +136,72 @@ class Session(Plays, Generic[S]):
         return slots
 
     def _must_be_whole(self) -> None:
-        if not self._is_whole:
+        """Carries out what is left since a method of the game raised. From within such a method there is no way."""
+        if self._is_rolling:
             raise Refused(Answer.PENDING)
+        if self._request is not None:
+            self._carry_out()
 
     def _rolled(self, call: Callable[[Any, Any], Any], out: Any) -> int:
         """What a call that rolls answers; what it leaves is carried out."""
         self._forget_dropped()
         code: int = call(self._at(), out)
-        self._is_whole = False
-        game = self.game
-        for request in self._take():
-            kind = request.kind
-            if kind == _STEP:
-                game.advance(row_of(request.row))
-            elif kind == _SAVE:
-                self._put(request.slot, game.save())
-            elif kind == _LOAD:
-                game.load(self._slots[request.slot])
-            else:
-                self._slots[request.slot] = None
-        self._is_whole = True
+        self._left = self._take()
+        self._request = next(self._left, None)
+        self._carry_out()
         return code
 
+    def _carry_out(self) -> None:
+        """Carries out the request that is next, and those after it."""
+        game, slots, rows = self.game, self._slots, self._rows
+        self._is_rolling = True
+        try:
+            if self._is_torn:
+                self._begin_frame_again()
+            while (request := self._request) is not None:
+                kind = request.kind
+                if kind == _STEP:
+                    row = row_of(request.row)
+                    self._is_torn = True  # unless the frame comes to its end
+                    game.advance(row)
+                    self._is_torn = False
+                    rows.append(row)
+                elif kind == _SAVE:
+                    self._saved = game.save()
+                    rows.clear()
+                    self._put(request.slot, self._saved)
+                elif kind == _LOAD:
+                    game.load(slots[request.slot])
+                    self._saved = slots[request.slot]
+                    rows.clear()
+                else:
+                    slots[request.slot] = None
+                self._request = next(self._left, None)
+        finally:
+            self._is_rolling = False
+
+    def _begin_frame_again(self) -> None:
+        """To the state before the frame in which the game raised."""
+        self.game.load(self._saved)
+        for row in self._rows:
+            self.game.advance(row)
+        self._is_torn = False
+
     def _gone_on(self, call: Callable[[Any, Any], Any], frames: Any) -> bool:
-        """Whether the next epoch has begun, as a peer's call says. The jobs of the one before are over then."""
-        has_begun = said_or_nothing(self._rolled(call, frames))
-        if has_begun:
-            self._jobs.clear()
+        """Whether the next epoch has begun, as a peer's call says. The jobs of the one before are over then. If a method of the game
+        raised meanwhile, the next call says it."""
+        self._must_be_whole()
+        if not self._has_begun:
+            said_or_nothing(self._rolled(lambda session, out: self._noted(call(session, out)), frames))
+        has_begun, self._has_begun = self._has_begun, False
         return has_begun
+
+    def _noted(self, code: int) -> int:
+        """Notes that an epoch has begun, if an answer says so."""
+        if code == _OK:
+            self._has_begun = True
+            self._jobs.clear()
+        return code
 
     def _put(self, slot: int, state: S | None) -> None:
         """The least free slots are always taken, so the next one is at most one more."""

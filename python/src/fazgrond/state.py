@@ -6,7 +6,8 @@ from typing import Any, NamedTuple
 
 from ._raw import ffi, lib
 from .errors import said, said_or_nothing
-from .numbers import ASKED, NO_MACHINE, Piece
+from .given import Octets, octets, u8, u32, u64
+from .numbers import ASKED, DIGEST_BYTES, NO_MACHINE, Piece
 from .owned import Owned, whole, written
 
 
@@ -21,36 +22,40 @@ class StateName:
     digest: bytes  # their SHA-256
 
     def _raw(self) -> Any:
-        return ffi.new("fazgrond_state_name *", [self.which, self.frame, self.length, list(self.digest)])
+        if len(self.digest) != DIGEST_BYTES:
+            raise ValueError(f"`digest` has {len(self.digest)} bytes: {DIGEST_BYTES} are needed")
+        told = u64("which", self.which), u32("frame", self.frame), u32("length", self.length)
+        return ffi.new("fazgrond_state_name *", [*told, list(self.digest)])
 
     def digest_with(self, digest: int) -> int:
         """A digest that has this state in it, beside what another has: by one call for each state, in the same order at all
         machines, that of the match has all of them."""
-        return int(lib.fazgrond_state_digest(self._raw(), digest))
+        return int(lib.fazgrond_state_digest(self._raw(), u64("digest", digest)))
 
 
 def name_of(raw: Any) -> StateName:
     return StateName(raw.which, raw.frame, raw.length, bytes(ffi.buffer(raw.digest)))
 
 
-def state_sender(datagram: bytes) -> int | None:
+def state_sender(datagram: Octets) -> int | None:
     """Which machine a datagram says that it is of, if it is a piece of a state or asks for some; None if it is for a peer."""
     machine = ffi.new("uint8_t *")
-    return int(machine[0]) if said_or_nothing(lib.fazgrond_state_sender(datagram, len(datagram), machine)) else None
+    return int(machine[0]) if said_or_nothing(lib.fazgrond_state_sender(*octets("datagram", datagram), machine)) else None
 
 
 def state_ask(number: int, me: int, which: int, frame: int) -> bytes:
     """The datagram that asks for the first piece of the state of this number and frame, if nobody has said what it is called.
     `number` is the one that this machine, `me`, shares with who is asked."""
-    made = written(lambda out, room, length: lib.fazgrond_state_ask(number, me, which, frame, out, room, length))
+    told = u64("number", number), u8("me", me), u64("which", which), u32("frame", frame)
+    made = written(lambda out, room, length: lib.fazgrond_state_ask(*told, out, room, length))
     assert made is not None
     return made
 
 
-def state_told(number: int, datagram: bytes) -> StateName:
+def state_told(number: int, datagram: Octets) -> StateName:
     """What the state is called that a datagram is a piece of. Whether that is the right one is for the program to believe."""
     raw = ffi.new("fazgrond_state_name *")
-    said(lib.fazgrond_state_told(number, datagram, len(datagram), raw))
+    said(lib.fazgrond_state_told(u64("number", number), *octets("datagram", datagram), raw))
     return name_of(raw)
 
 
@@ -64,9 +69,9 @@ class Heard(NamedTuple):
 class Giver(Owned):
     """Who gives a state in pieces to those who ask for them. It keeps a copy of the bytes, and nothing of who asked."""
 
-    def __init__(self, which: int, frame: int, state: bytes) -> None:
+    def __init__(self, which: int, frame: int, state: Octets) -> None:
         super().__init__("giver")
-        said(lib.fazgrond_giver_open(self._at(), which, frame, state, len(state)))
+        said(lib.fazgrond_giver_open(self._at(), u64("which", which), u32("frame", frame), *octets("state", state)))
 
     @property
     def name(self) -> StateName:
@@ -81,11 +86,11 @@ class Giver(Owned):
         with self._lock:
             return whole(lambda out, room: lib.fazgrond_giver_bytes(self._at(), out, room), self.name.length)
 
-    def reply(self, number: int, me: int, ask: bytes, place: int) -> bytes | None:
+    def reply(self, number: int, me: int, ask: Octets, place: int) -> bytes | None:
         """The datagram for the piece that bytes ask for at a place of their list, from 0. None if they ask for fewer, or for one
         that the state hasn't. Send it to where the machine that `state_sender` names has its address."""
         with self._lock:
-            asked = self._at(), number, me, ask, len(ask), place
+            asked = self._at(), u64("number", number), u8("me", me), *octets("ask", ask), u64("place", place)
             return written(lambda out, room, length: lib.fazgrond_giver_reply(*asked, out, room, length))
 
 
@@ -102,7 +107,7 @@ class Taker(Owned):
 
     def __init__(self, name: StateName, limit: int) -> None:
         super().__init__("taker")
-        said(lib.fazgrond_taker_open(self._at(), name._raw(), limit))
+        said(lib.fazgrond_taker_open(self._at(), name._raw(), u32("limit", limit)))
 
     @property
     def name(self) -> StateName:
@@ -122,27 +127,27 @@ class Taker(Owned):
     def send(self, number: int, me: int, most: int = ASKED) -> bytes | None:
         """The datagram that asks for the next missing pieces, so many at most. None if none is missing."""
         with self._lock:
-            taker = self._at()
-            return written(lambda out, room, length: lib.fazgrond_taker_send(taker, number, me, most, out, room, length))
+            told = self._at(), u64("number", number), u8("me", me), u64("most", most)
+            return written(lambda out, room, length: lib.fazgrond_taker_send(*told, out, room, length))
 
-    def receive(self, number: int, datagram: bytes) -> Heard:
+    def receive(self, number: int, datagram: Octets) -> Heard:
         """Takes a datagram that came, sealed by the number that this machine shares with its sender."""
         heard = ffi.new("fazgrond_heard *")
         with self._lock:
-            said(lib.fazgrond_taker_receive(self._at(), number, datagram, len(datagram), heard))
+            said(lib.fazgrond_taker_receive(self._at(), u64("number", number), *octets("datagram", datagram), heard))
         return Heard(Piece(heard.what), None if heard.machine == NO_MACHINE else heard.machine)
 
     def takes_of(self, machine: int) -> bool:
         """Whether pieces of a machine are taken for now: ask those alone."""
         flag = ffi.new("uint32_t *")
         with self._lock:
-            said(lib.fazgrond_taker_takes_of(self._at(), machine, flag))
+            said(lib.fazgrond_taker_takes_of(self._at(), u8("machine", machine), flag))
         return bool(flag[0])
 
     def take_of(self, machine: int | None) -> None:
         """From now on pieces of this machine alone are taken, or of each that didn't give a wrong state."""
         with self._lock:
-            said(lib.fazgrond_taker_take_of(self._at(), NO_MACHINE if machine is None else machine))
+            said(lib.fazgrond_taker_take_of(self._at(), NO_MACHINE if machine is None else u8("machine", machine)))
 
     def state(self) -> bytes | None:
         """The state's bytes, once it is whole."""

@@ -2,6 +2,7 @@
 from __future__ import annotations
 
 from ._raw import ffi, lib
+from .given import u64
 
 
 class Window:
@@ -15,8 +16,8 @@ class Window:
 
     def is_new(self, number: int) -> bool:
         """Whether a number is new. Ask before the datagram is opened."""
-        return bool(lib.fazgrond_window_is_new(self._window, number))
+        return bool(lib.fazgrond_window_is_new(self._window, u64("number", number)))
 
     def note(self, number: int) -> bool:
         """Takes a number if it is new, and says whether it was. Call it once the datagram is known to be genuine."""
-        return bool(lib.fazgrond_window_note(self._window, number))
+        return bool(lib.fazgrond_window_note(self._window, u64("number", number)))

@@ -55,6 +55,10 @@ fn play(session: &mut Session<Digest>, peer: &mut Peer, me: u8, wait: u32, now: 
         match event {
             Event::TimeSync { frames_ahead } => wait = frames_ahead,
             Event::Desync { frame, .. } => return Err(format!("the states differ at frame {frame}").into()),
+            // So it is to a program that was begun again, and that its match doesn't take back.
+            Event::Missing { .. } => return Err("the other machine isn't in this match".into()),
+            Event::Mismatch { .. } => return Err("the other machine means another match".into()),
+            Event::Dropped => return Err("the other machine regards this one as gone".into()),
             _ => {}
         }
     }
@@ -69,7 +73,7 @@ fn main() -> Result<(), Box<dyn Error>> {
     line.connect((address.as_str(), other_port.parse()?))?;
     line.set_nonblocking(true)?;
     let mut session = Session::open(&Settings::new(2, &[me + 1]).limit(FRAMES), Digest(0))?;
-    let mut peer = Peer::open(&mut session, &Match::new(2, me, &[0, 1], draw()).number(NUMBER).silent_after(30000))?;
+    let mut peer = Peer::open(&mut session, &Match::new(2, me, &[0, 1], draw()).number(NUMBER).silent_after(100_000))?;
     let (start, mut bytes, mut wait, mut past) = (Instant::now(), [0; 2048], 0, 0);
     while past < PAST_LAST {
         let now = (start.elapsed() * SPEED).as_millis() as u32;

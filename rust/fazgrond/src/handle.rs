@@ -185,12 +185,12 @@ impl Handle {
         let mut room = [(); ROOM].map(|()| MaybeUninit::<raw::Request>::uninit());
         loop {
             let count = unsafe { raw::fazgrond_take_requests(self.raw(), room.as_mut_ptr().cast(), ROOM) };
+            if count == 0 {
+                return; // only now is none left: those of a seam come in two parts
+            }
             for taken in &room[..count] {
                 // SAFETY: the library wrote so many.
                 carry_out(unsafe { taken.assume_init_ref() });
-            }
-            if count < ROOM {
-                return; // none is left
             }
         }
     }

@@ -94,7 +94,7 @@
 //!
 //! A [`Peer`] is the network of a match, beside the session: it makes and takes datagrams, and tells the session of the others. A
 //! match can go on with other machines, owners or delays, in [epochs](Epoch). A [`Viewer`] on another machine is sent a match's
-//! settled rows, by a [`Line`].
+//! settled rows, by a [`Line`]. Whether a game comes out the same each time that it is run, a [`sync_test`] says.
 
 mod epoch;
 mod error;
@@ -113,6 +113,7 @@ mod row;
 mod session;
 mod settings;
 mod state;
+mod sync;
 
 pub use epoch::{Ask, Epoch, Mark};
 pub use error::Error;
@@ -125,6 +126,7 @@ pub use row::{Row, PLAYERS};
 pub use session::{Game, Session};
 pub use settings::Settings;
 pub use state::{Giver, Piece, StateName, Taker};
+pub use sync::sync_test;
 
 /// The version of the library that the program runs with: `major << 16 | minor << 8 | patch`.
 pub fn version() -> u32 {

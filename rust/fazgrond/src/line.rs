@@ -19,7 +19,7 @@ pub struct LineSettings {
 
 impl LineSettings {
     /// A line to the machine `host` of a match of so many machines, whose players have these owners, player 1 first. The other end
-    /// is never silent for too long.
+    /// is silent once it has answered nothing for 5,000 milliseconds.
     ///
     /// The number is the line's own: 64 random bits that only its two ends know. The draw is drawn for this opening of this end, as
     /// in a [`Match`](crate::Match).
@@ -35,7 +35,7 @@ impl LineSettings {
             host: host.into(),
             machines: machines.into(),
             owners: owners_of(owners),
-            silent_after: 0,
+            silent_after: raw::SILENT_AFTER,
         }
     }
 

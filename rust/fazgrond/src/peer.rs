@@ -35,8 +35,8 @@ pub struct Match {
 }
 
 impl Match {
-    /// A match of so many machines, of which this one is `me`. Each player has an owner, player 1 first. Nobody is ever silent for
-    /// too long, and the match has the number 0: set one.
+    /// A match of so many machines, of which this one is `me`. Each player has an owner, player 1 first. Whoever answers nothing is
+    /// gone after 5,000 milliseconds, and told of after 750. The match has the number 0: set one.
     ///
     /// The draw is 64 bits of the system's source of random bits, drawn anew for each opening, and never 0: by it what was sent in
     /// an earlier opening of the same match isn't heard in this one.
@@ -53,8 +53,8 @@ impl Match {
             me: me.into(),
             machines: machines.into(),
             owners: owners_of(owners),
-            silent_after: 0,
-            notify_after: 0,
+            silent_after: raw::SILENT_AFTER,
+            notify_after: raw::NOTIFY_AFTER,
             stalled_after: 0,
             words: 1,
             held_turns: 0,
@@ -266,6 +266,11 @@ pub enum Event {
         /// In how many milliseconds the match is over here, which [`Event::Dropped`] tells.
         over_in: u32,
     },
+    /// A machine isn't there, though it had the time, and datagrams come that aren't of this match. Told once.
+    Strangers {
+        /// How many hellos came that are sealed by another number, are of another version, or name a place of none of the others.
+        count: u32,
+    },
 }
 
 impl Event {
@@ -289,6 +294,7 @@ impl Event {
             raw::REFUSED => Event::Refused { machine },
             raw::MISSING => Event::Missing { machine },
             raw::CUT_OFF => Event::CutOff { over_in: disconnect_in },
+            raw::STRANGERS => Event::Strangers { count: told.count },
             code => unreachable!("an event of the code {code}"),
         }
     }
@@ -407,7 +413,7 @@ impl<G: Game> Plays for Session<G> {}
 /// let mut machines = Vec::new();
 /// for me in 0..2 {
 ///     let mut session = Session::open(&Settings::new(2, &[me + 1]), Sum(0))?;
-///     let of = Match::new(2, me, &[0, 1], random_bits()).number(0x5eed).silent_after(5000);
+///     let of = Match::new(2, me, &[0, 1], random_bits()).number(0x5eed);
 ///     let peer = Peer::open(&mut session, &of)?;
 ///     machines.push((session, peer, Vec::<Datagram>::new()));
 /// }

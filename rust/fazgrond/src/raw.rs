@@ -125,10 +125,12 @@ pub struct Window {
     pub bits: [u64; WINDOW_PLACES],
 }
 
-pub const VERSION: u32 = 0x000102;
+pub const VERSION: u32 = 0x000103;
 pub const PLAYERS: usize = 8;
 pub const NO_PLAYER: u32 = 255;
 pub const MACHINES: usize = 8;
+pub const SILENT_AFTER: u32 = 5000;
+pub const NOTIFY_AFTER: u32 = 750;
 pub const DATAGRAM: usize = 1200;
 pub const HELD_WORDS: usize = 64;
 pub const NOBODY: u32 = 254;
@@ -226,6 +228,7 @@ pub const STALLED: u32 = 1106;
 pub const REFUSED: u32 = 1107;
 pub const MISSING: u32 = 1108;
 pub const CUT_OFF: u32 = 1109;
+pub const STRANGERS: u32 = 1110;
 
 pub const PIECE_AGAIN: u32 = 1;
 pub const PIECE_TAKEN: u32 = 2;

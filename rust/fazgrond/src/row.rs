@@ -11,6 +11,17 @@ pub struct Row {
 }
 
 impl Row {
+    /// A row of these words, player 1's first. Nobody has left.
+    ///
+    /// # Panics
+    ///
+    /// If there are more than 8.
+    pub fn new(words: &[u32]) -> Row {
+        let mut row = Row { count: words.len() as u32, ..Row::default() };
+        row.words[..words.len()].copy_from_slice(words);
+        row
+    }
+
     /// How many players there are.
     pub fn players(&self) -> u8 {
         self.count as u8

@@ -5,6 +5,7 @@ use fazgrond::{
     Datagram, Epoch, Error, Event, Game, Handle, Line, LineSettings, Mark, Match, Peer, Request, Row, Session,
     Settings, Viewer,
 };
+use std::collections::VecDeque;
 
 const FRAMES: u64 = 200;
 const TURN: u32 = 16;
@@ -44,9 +45,10 @@ struct Machine {
     peer: Peer,
     line: Line,
     viewer: Viewer,
+    is_watched: bool,
     epochs: Vec<Epoch>,
     here: Vec<Datagram>,
-    coming: Vec<Datagram>,
+    coming: VecDeque<Vec<Datagram>>,
 }
 
 fn of(me: u8) -> Match {
@@ -64,7 +66,8 @@ fn machine(me: u8) -> Machine {
     let mut line = Line::open(&line_of(me, 21)).unwrap();
     assert!(line.send_before(&peer, 0).is_none());
     let viewer = Viewer::open(&line_of(me, 22)).unwrap();
-    Machine { me, session, peer, line, viewer, epochs: vec![epoch], here: Vec::new(), coming: Vec::new() }
+    let (is_watched, epochs) = (true, vec![epoch]);
+    Machine { me, session, peer, line, viewer, is_watched, epochs, here: Vec::new(), coming: VecDeque::new() }
 }
 
 fn line_of(host: u8, draw: u64) -> LineSettings {
@@ -82,18 +85,18 @@ impl Machine {
         self.epochs[self.epochs.len() - 1].base + u64::from(self.session.frame())
     }
 
-    /// Goes on in the next epoch if this one is over.
+    /// Goes on in the next epoch if this one is over. Where somebody watches, what has come is played first, so that all rows are told
+    /// of the epoch that may be over.
     fn go_on(&mut self) {
         let before = self.frame();
-        // What has come is played first, so that all rows are told of the epoch that may be over.
-        if self.session.has_news() {
+        if self.is_watched && self.session.has_news() {
             self.session.synchronize_input().unwrap();
         }
         if let Some(frames) = self.peer.go_on(&mut self.session).unwrap() {
             self.epochs.push(self.peer.epoch().unwrap());
             assert_eq!((self.session.frame(), self.frame()), (frames, before));
             assert_eq!(stayed(&self.peer), [0, 1]);
-            if self.epochs.len() == 2 {
+            if self.is_watched && self.epochs.len() == 2 {
                 self.tell_past();
             }
         }
@@ -153,46 +156,69 @@ fn mark_in(turn: u32, me: u8) -> Option<Mark> {
     }
 }
 
-#[test]
-fn a_match_goes_on_in_epochs() {
-    let mut all = [machine(0), machine(1)];
-    for turn in 0..600 {
-        for it in &mut all {
-            it.here = std::mem::take(&mut it.coming);
-        }
-        for me in 0..2u8 {
-            let sent = all[usize::from(me)].turn(mark_in(turn, me).as_ref(), turn * TURN);
-            all[usize::from(1 - me)].coming.extend(sent);
-        }
+/// Two machines, each of which hears in a turn what the other sent so many turns before.
+fn machines(lag: usize, is_watched: bool) -> [Machine; 2] {
+    [0, 1].map(|me| Machine { is_watched, coming: vec![Vec::new(); lag].into(), ..machine(me) })
+}
+
+/// A turn of both.
+fn take_turn(all: &mut [Machine; 2], turn: u32, mark_in: impl Fn(u32, u8) -> Option<Mark>) {
+    for me in 0..2u8 {
+        let it = &mut all[usize::from(me)];
+        it.here = it.coming.pop_front().unwrap_or_default();
+        let sent = it.turn(mark_in(turn, me).as_ref(), turn * TURN);
+        all[usize::from(1 - me)].coming.push_back(sent);
     }
+}
+
+/// What the game comes to without a network.
+fn alone() -> u32 {
     let mut alone = Sum(0);
     for frame in 0..FRAMES {
         alone.add((0..2).map(|player| word_of(player, frame)));
     }
+    alone.0
+}
+
+#[test]
+fn a_match_goes_on_in_epochs() {
+    let mut all = machines(1, true);
+    (0..600).for_each(|turn| take_turn(&mut all, turn, mark_in));
     let [one, two] = &all;
     assert_eq!(one.epochs, two.epochs);
     assert_eq!(one.epochs.iter().map(|it| it.threshold).collect::<Vec<_>>(), [8, 8, 6]);
     for it in &mut all {
         let settled = it.epochs[2].base + u64::from(it.session.settled());
-        assert_eq!((it.frame(), settled, it.session.game().0), (FRAMES, FRAMES, alone.0));
+        assert_eq!((it.frame(), settled, it.session.game().0), (FRAMES, FRAMES, alone()));
         let seen = it.line.look(0);
         assert_eq!((seen.is_playing, seen.has_ended, it.line.send_before(&it.peer, 0).is_none()), (true, false, true));
     }
 }
 
+/// The requests of a seam come in two parts, the epoch's that is over and the next one's, and none of them is left to the next call:
+/// though the session is given none between the poll and the seam.
+#[test]
+fn a_seam_needs_no_call_before() {
+    for (marker, lag) in [(0, 1), (1, 3), (0, 5)] {
+        let mut all = machines(lag, false);
+        for turn in 0..600 {
+            take_turn(&mut all, turn, |turn, me| (turn % 50 == 49 && me == marker).then(Mark::new));
+        }
+        assert!(all[0].epochs.len() > 4 && all[0].epochs == all[1].epochs, "{:?}", all[0].epochs);
+        for it in &all {
+            let base = it.epochs[it.epochs.len() - 1].base;
+            assert_eq!((it.frame(), base + u64::from(it.session.settled())), (FRAMES, FRAMES));
+            assert_eq!(it.session.game().0, alone());
+        }
+    }
+}
+
 #[test]
 fn jobs_are_over_with_their_epoch() {
-    let mut all = [machine(0), machine(1)];
+    let mut all = machines(1, true);
     let mut job = None;
     for turn in 0..200 {
-        for it in &mut all {
-            it.here = std::mem::take(&mut it.coming);
-        }
-        for me in 0..2u8 {
-            let mark = (turn == 60 && me == 0).then(Mark::new);
-            let sent = all[usize::from(me)].turn(mark.as_ref(), turn * TURN);
-            all[usize::from(1 - me)].coming.extend(sent);
-        }
+        take_turn(&mut all, turn, |turn, me| (turn == 60 && me == 0).then(Mark::new));
         let it = &mut all[0];
         if turn == 50 {
             job = it.session.guess(2, &[77], it.session.frame() + 2).unwrap();

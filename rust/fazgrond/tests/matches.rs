@@ -364,6 +364,38 @@ fn a_machine_leaves() {
     assert!(scene.watched.viewer.look(0).has_ended && scene.watched.viewer.send(0).is_none());
 }
 
+/// If nothing is said of times, a machine of which nothing comes is told of after 750 milliseconds, and gone after 5,000.
+#[test]
+fn a_machine_that_stops_is_gone() {
+    let mut both = [0, 1].map(|me| {
+        let mut handle = Handle::open(&settings_of(me)).unwrap();
+        let peer = Peer::open(&mut handle, &Match::new(2, me, &OWNERS, 70 + u64::from(me)).number(7)).unwrap();
+        (handle, peer)
+    });
+    let mut told = Vec::new();
+    for turn in 0..400 {
+        for me in 0..2u8 {
+            let (handle, peer) = &mut both[usize::from(me)];
+            peer.poll(handle, turn * TURN).unwrap();
+            told.extend(std::iter::from_fn(|| peer.event()).map(|event| (turn * TURN, me, event)));
+            let sent = peer.send(handle, 1 - me, turn * TURN).unwrap();
+            let (handle, peer) = &mut both[usize::from(1 - me)];
+            if let Some(sent) = sent.filter(|_| turn < 20 || me == 1) {
+                let _ = peer.receive(handle, &sent, turn * TURN);
+            }
+        }
+        if turn == 20 {
+            told.clear();
+        }
+    }
+    let last = 19 * TURN; // when machine 1 heard the other one, which answered what it had sent in the turn before
+    let [(first, 1, Event::Interrupted { machine: 0, .. }), (second, 1, Event::Left { machine: 0 }), ..] = told[..]
+    else {
+        panic!("{told:?}");
+    };
+    assert!((750..800).contains(&(first - last)) && (4900..5200).contains(&(second - last)), "{told:?}");
+}
+
 #[test]
 fn matches_that_cant_be() {
     let mut session = Handle::open(&settings_of(0)).unwrap();
