@@ -14,20 +14,27 @@ import urllib.parse
 SIGNS = "0123456789ABCDEFGHJKMNPQRSTVWXYZ"
 PAGE = 0x66617A2D70616765
 VERSION, KEY, INBOX, NONCE, SEAL = 2, 32, 32, 24, 40
-# Bytes of a code, of the name of who knocks, and of a room's name.
+# Bytes of a code, of the name of who knocks, and of a room's name. So many signals wait.
 CODE = KNOCK = NAME = 16
+EARLY = 64
 WAITS, SEATED, BEGINS, REFUSED = range(4)
 REASONS = ["the host said no", "nobody hosts a match with this code now", "all seats are taken",
            "the host plays another game, or another version of it", "the host's player said no", "the host has left",
            "the host's game has another version of this library", "the host's system said no", "the code's last four signs are wrong",
            "the door was asked too often from this address: try later",
            "the host doesn't play in a browser: a native game joins it by --join of its own"]
-# Seconds: between two messages, and without an answer.
-AGAIN, PATIENCE = 0.5, 10
+UNANSWERED = "nobody who hosts a match with this code answers: the host is gone, or its game has an older version of this library"
+# Seconds: between two messages, without an answer, and until it is believed that a code is wrong. And so often it knocks, since who hears one
+# can spoil its proof.
+AGAIN, PATIENCE, BELIEVED, KNOCKS = 0.5, 10, 3, 3
 
 
 class Failed(Exception):
     pass
+
+
+class Spoilt(Exception):
+    """A proof that can't go on, by a word that may be anybody's."""
 
 
 def library(*names):
@@ -159,8 +166,8 @@ class Pake:
         """Takes what the host said. What is to be said next; whether it is done."""
         self.came, self.said = came, b""
         status = self.calls.gnutls_handshake(self.session)
-        if status not in (0, self.AGAIN_LATER):
-            raise Failed(REASONS[8])
+        if status not in (0, self.AGAIN_LATER) or (status and not self.said):
+            raise Spoilt
         return self.said, status == 0
 
     def key(self):
@@ -313,6 +320,7 @@ class Lobby:
     def __init__(self, url, name, digest, told):
         self.url, self.name, self.digest, self.told = url, name, digest ^ PAGE, told
         self.sodium, self.early, self.servers, self.counter, self.reading = Sodium(), [], [], 0, None
+        self.is_unheard, self.has_doubted, self.believed = False, False, None
         self.broker, self.keys = Broker(self.sodium), self.sodium.keys()
 
     async def join(self, text, has_door):
@@ -326,21 +334,35 @@ class Lobby:
             name = follow("fazgrond room 1", code, NAME).hex()
             self.room_key = follow("fazgrond room key 1", code, KEY)
             hello = b"h" + self.sodium.seal(self.room_key, bytes([VERSION]) + self.keys[0], b"h")
-            offer = await self.answered(f"faz.meet.{name}", hello, b"o")
-        await self.ask(self.take_offer(offer, None if plate else code))
+            offer = await self.answered(f"faz.meet.{name}", lambda: hello, b"o", lambda came: self.read_offer(came, code))
+        await self.ask(offer)
 
-    async def answered(self, subject, data, *kinds):
-        """What is answered of a kind, to what is said again and again."""
-        until = asyncio.get_running_loop().time() + PATIENCE
-        while asyncio.get_running_loop().time() < until:
-            self.broker.say(subject, data, True)
-            came = await self.within(AGAIN, kinds)
-            if came is not None:
-                return came
-        raise Failed("nobody who hosts a match with this code answers: the host is gone, or its game has an older version of this library")
+    async def answered(self, subject, asking, kind, read, gone=REASONS[1]):
+        """What is answered to what is said again and again, of a kind, and as it is read: what that gives None for may be anybody's, and is left
+        aside. `gone` is why, if nobody hears it."""
+        now, again = asyncio.get_running_loop().time, 0
+        until, self.is_unheard = now() + PATIENCE, False
+        while now() < min(until, self.believed or until):
+            if now() >= again:
+                self.broker.say(subject, asking(), True)
+                again = now() + AGAIN
+            came = await self.within(again - now(), kind)
+            found = None if came is None else self.read_by(read, came)
+            if found is not None:
+                return found
+        if self.believed is not None:
+            raise Failed(REASONS[8])
+        raise Failed(gone if self.is_unheard else UNANSWERED)
 
-    async def within(self, seconds, kinds):
-        """A message of these kinds; None if none comes in time. Signals are kept."""
+    @staticmethod
+    def read_by(read, came):
+        try:
+            return read(came)
+        except ValueError:
+            return None
+
+    async def within(self, seconds, kind):
+        """A message of this kind; None if none comes in time. Signals are kept."""
         with_end = asyncio.get_running_loop().time() + seconds
         while True:
             try:
@@ -348,11 +370,23 @@ class Lobby:
             except (asyncio.TimeoutError, TimeoutError):
                 return None
             if came is None:
-                raise Failed(REASONS[1] if b"d" not in kinds else "there is no door beside this broker")
-            if came[:1] in kinds:
+                self.doubt_host()
+            elif came[:1] == kind:
                 return came
-            if came[:1] == b"g":
+            elif came[:1] == b"g" and len(self.early) < EARLY:
                 self.early.append(came)
+
+    def doubt_host(self):
+        """Nobody hears what is said, as it seems."""
+        if not self.has_doubted and self.counter == 0:
+            self.told(f"nobody answers so far: waiting for {PATIENCE} seconds at most")
+        self.is_unheard = self.has_doubted = True
+
+    def doubt_code(self):
+        """The code is wrong, as it seems."""
+        if self.believed is None:
+            self.told(f"the code's last four signs may be wrong: waiting for {BELIEVED} seconds at most")
+            self.believed = asyncio.get_running_loop().time() + BELIEVED
 
     async def heard(self):
         """The next message. A read that is given up isn't lost."""
@@ -364,10 +398,8 @@ class Lobby:
     async def ask_door(self, plate):
         keys = self.sodium.keys()
         asked = bytes([1]) + (b"J" if plate else b"R") + keys[0] + text_bytes(plate) + bytes(16)
-        inside = self.sodium.open_box(keys, (await self.answered("faz.door", asked, b"d"))[1:])
-        if inside is None:
-            raise Failed("the door's answer can't be read")
-        of = Reader(inside)
+        of = Reader(await self.answered("faz.door", lambda: asked, b"d", lambda came: self.sodium.open_box(keys, came[1:]),
+                                        "there is no door beside this broker"))
         _, says, _, token = of.number(1), of.number(1), of.text(), of.take(16)
         if says:
             raise Failed(REASONS[9] if says == 2 else REASONS[1])
@@ -379,28 +411,51 @@ class Lobby:
         return token
 
     async def knock(self, plate, secret, subject):
-        pake, mine, came = Pake(plate, secret), os.urandom(KNOCK), b""
+        for _ in range(KNOCKS):
+            try:
+                offer = await self.prove(Pake(plate, secret), os.urandom(KNOCK), subject)
+                self.believed = None
+                return offer
+            except Spoilt:
+                self.doubt_code()
+        await asyncio.sleep(max(self.believed - asyncio.get_running_loop().time(), 0))
+        raise Failed(REASONS[8])
+
+    async def prove(self, pake, mine, subject):
+        """Shows that it knows the code: what the host offers then."""
+        came, more = b"", b""
         for step in (1, 2):
             said, _ = pake.turn(came)
-            answer = Reader(await self.answered(subject, struct.pack(">c16sBBH", b"k", mine, step, 0, len(said)) + said, b"n"))
-            answer.take(1)
-            theirs, at, wrong = answer.take(KNOCK), answer.number(1), answer.number(1)
-            came = answer.take(answer.number(2))
-            if wrong or theirs != mine or at != step:
-                raise Failed(REASONS[8])
+            knock = struct.pack(">c16sBBH", b"k", mine, step, 0, len(said)) + said
+            came, more = await self.answered(subject, lambda: knock, b"n", lambda it: self.read_knocked(it, mine, step))
+            self.believed = self.believed and asyncio.get_running_loop().time() + BELIEVED
         if not pake.turn(came)[1]:
-            raise Failed(REASONS[8])
+            raise Spoilt
         self.room_key = pake.key()
-        return answer.data
+        offer = self.read_by(self.read_offer, more)
+        return offer or await self.answered(subject, lambda: knock, b"n",
+                                            lambda it: self.read_offer(self.read_knocked(it, mine, 2)[1]))
 
-    def take_offer(self, data, code):
-        """The host's inbox. With a short code the key by which the offer is sealed says that it is the host's."""
+    def read_knocked(self, data, mine, step):
+        """What is said to who knocks, and what is behind that."""
+        of = Reader(data[1:])
+        theirs, at, wrong = of.take(KNOCK), of.number(1), of.number(1)
+        said = of.take(of.number(2))
+        if theirs != mine or at != step:
+            raise ValueError("it is for another")
+        if wrong:
+            self.doubt_code()
+            raise ValueError("it may be anybody's")
+        return said, of.data
+
+    def read_offer(self, data, code=None):
+        """The host's inbox; None if this is another's. With a short code the key by which the offer is sealed says that it is the host's."""
         of = Reader(self.sodium.open(self.room_key, data[1:], b"o") or b"")
         if of.number(1) != VERSION:
             raise Failed(REASONS[6])
         host, speaks, proof, inbox = of.take(KEY), of.take(KEY), of.take(64), of.take(INBOX)
         if not self.sodium.vouched(proof, host, speaks) or (code is not None and follow("fazgrond code 1", host, 16) != code):
-            raise Failed("who answers isn't the host of this code")
+            return None
         self.pair = Pair(self.sodium, self.room_key, self.keys, speaks)
         return inbox_subject(inbox)
 
@@ -411,12 +466,15 @@ class Lobby:
 
     async def ask(self, subject):
         """Asks to be let in, until the match begins."""
-        says, last, heard = None, 0, asyncio.get_running_loop().time()
+        says, last, heard, again = None, 0, asyncio.get_running_loop().time(), 0
         while says != BEGINS:
-            if asyncio.get_running_loop().time() - heard > PATIENCE:
+            now = asyncio.get_running_loop().time()
+            if now - heard > PATIENCE:
                 raise Failed(REASONS[5])
-            self.broker.say(subject, self.asking(), True)
-            came = await self.within(AGAIN, (b"s",))
+            if now >= again:
+                self.broker.say(subject, self.asking(), True)
+                again = now + AGAIN
+            came = await self.within(again - now, b"s")
             inside = None if came is None else self.pair.open(b"s", came[1:])
             of = Reader(inside or bytes(4))
             counter = of.number(4)
@@ -452,6 +510,6 @@ class Lobby:
 
     async def hear(self, seconds):
         """The next signal's text, or None."""
-        came = self.early.pop(0) if self.early else await self.within(seconds, (b"g",))
+        came = self.early.pop(0) if self.early else await self.within(seconds, b"g")
         inside = None if came is None or len(came) < 2 or came[1] != 0 else self.pair.open(b"g", came[2:])
         return None if inside is None else inside.decode(errors="replace")

@@ -4,6 +4,7 @@ import { Duel, text } from "./rules.js";
 
 const PAST_LAST = 32; // frames after the last one, so that the other has all of it too
 const BYES = 3;
+const ENDING = 90; // turns in which the other one can find a desync, too
 const MOST_FLOOD = 256; // datagrams that are taken in a turn
 
 /** What all machines of a match have alike, as c/ggponet has it: so a page and the program c/out/duel can play together. */
@@ -92,6 +93,7 @@ export class Match {
     this.line = new BadLine(channel, { lag, loss });
     this.inbox = [];
     this.isOver = false; // the match can't go on
+    this.ending = null; // after a desync: so many turns until it is over
     this.isAlone = false; // the other has left
     channel.binaryType = "arraybuffer";
     channel.onmessage = ({ data }) => {
@@ -108,7 +110,8 @@ export class Match {
     if (this.isOver) return;
     for (const bytes of this.inbox.splice(0)) this.peer.receive(bytes, now);
     this.peer.poll(now);
-    if (this.peer.isRunning) this.play();
+    if (this.ending !== null) this.isOver ||= --this.ending <= 0;
+    else if (this.peer.isRunning) this.play();
     this.peer.noteSettled();
     for (let event = this.peer.event(); event !== null; event = this.peer.event()) this.react(event);
     const bytes = this.peer.send(this.other, now);
@@ -128,7 +131,9 @@ export class Match {
   react(event) {
     if (event.code === Code.TIME_SYNC) this.wait = event.framesAhead;
     if (event.code === Code.LEFT) this.isAlone = true;
-    if ([Code.DESYNC, Code.MISMATCH, Code.DROPPED].includes(event.code)) this.isOver = true;
+    if ([Code.MISMATCH, Code.DROPPED, Code.MISSING].includes(event.code)) this.isOver = true;
+    if (this.ending !== null) return; // (who leaves now does so for that)
+    if (event.code === Code.DESYNC) this.ending = ENDING;
     this.told(event);
   }
 

@@ -4,7 +4,7 @@
 // `lag=50`, `loss=10`, `timeout=5000` and `speed=4` are as those of c/out/duel. `?broker=URL&host` hosts at once, and
 // `?broker=URL&join=CODE` joins; `name=Anna`, `long` and `relay` are what the fields say.
 import { Code, Fazgrond } from "./fazgrond/fazgrond.js";
-import { Lobby } from "./fazgrond/lobby.js";
+import { Lobby, Why } from "./fazgrond/lobby.js";
 import { Match, eachTurn } from "./match.js";
 import { Meeting, serversOf } from "./meet.js";
 import { Bot, FIRE, LEFT, RIGHT, THRUST, WatchedDuel, opening, text } from "./rules.js";
@@ -77,29 +77,60 @@ function wordOf(me) {
   return { word: () => bot.word, taken: () => bot.draw() };
 }
 
+/** What is to be done for another match: of who met by texts, and by a code. */
+function another() {
+  return meeting?.isByCode ? "for another match host again, or ask the other one for a new code" : "for another match make a new invitation";
+}
+
+let counted = null; // what is told with the seconds that are left
+
+/** Tells a moment, by the turns' clock, to which seconds count down. */
+function countDown(words, until) {
+  counted = { words, until, seconds: Infinity };
+}
+
+function tellSeconds(now) {
+  const seconds = counted === null ? 0 : Math.ceil((counted.until - now) / 1000);
+  if (seconds <= 0 || seconds >= counted.seconds) return;
+  counted.seconds = seconds;
+  tell(`${counted.words} ${seconds} s`);
+}
+
 const SAYINGS = {
   [Code.SYNCHRONIZING]: () => "the other one is heard",
   [Code.SYNCHRONIZED]: () => "both hear each other",
   [Code.RUNNING]: () => "the match begins",
-  [Code.INTERRUPTED]: (it) => `nothing comes of the other one, who is gone in ${Math.ceil(it.disconnectIn / 1000)} s`,
   [Code.RESUMED]: () => "the other one is back",
-  [Code.LEFT]: () => "the other one has left: for another match make a new invitation",
+  [Code.LEFT]: () => `the other one has left: ${another()}`,
+  [Code.MISSING]: () => `the other one doesn't begin the match: ${another()}`,
+  [Code.DROPPED]: () => `the other one regards you as gone: ${another()}`,
   [Code.DESYNC]: (it) => `the two machines don't have the same state at frame ${it.frame}: the match is over`,
   [Code.MISMATCH]: () => "the other one plays another game: the match is over",
 };
 
+function hear(event, now) {
+  if (SAYINGS[event.code] !== undefined) {
+    counted = null;
+    tell(SAYINGS[event.code](event));
+  }
+  if (event.code === Code.INTERRUPTED) countDown("nothing comes of the other one, who is gone in", now + event.disconnectIn);
+}
+
 function begin(me, channel) {
   const { word, taken } = wordOf(me);
+  let now = 0;
   match = new Match(library, {
     number: BigInt(meeting.number), me, channel, word, taken, delay: number("delay", 1), frames: number("frames", 0),
     lag: number("lag", 0), loss: number("loss", 0), timeout: number("timeout", 5000),
-    told: (event) => SAYINGS[event.code] && tell(SAYINGS[event.code](event)),
+    told: (event) => hear(event, now),
   });
   show("meet", false);
   show("match", true);
   show("held", matchMedia("(pointer: coarse)").matches);
-  stop = eachTurn((now) => {
+  stop = eachTurn((moment) => {
+    now = moment;
     match.turn(now);
+    tellSeconds(now);
     if (match.isDone) end(`frame ${match.frames} state ${match.game.atLast}`);
     else if (match.isOver || match.isAlone) end(null);
   }, number("speed", 1));
@@ -121,6 +152,7 @@ function frame() {
 /** The match is over. What is under way gets a moment to arrive. */
 function end(result) {
   stop();
+  counted = null;
   const ended = { match, meeting };
   match = null;
   ended.match.close();
@@ -140,8 +172,9 @@ on("leave", () => {
   end(null);
 });
 
-// A page that is closed or loaded anew says so, if it still can. It can't come back into the match.
+// A page that is closed or loaded anew says so, if it still can. It can't come back into the match, and says what can be done.
 addEventListener("pagehide", () => {
+  if (match !== null) sessionStorage.setItem("left", `this page was loaded anew, and has left its match: ${another()}`);
   match?.close();
   meeting?.close();
 });
@@ -213,15 +246,16 @@ function answerFirst(yes) {
 
 /** What a lobby tells, in words; what needs none isn't there. */
 const LOBBY_SAYINGS = {
-  code: () => "waiting for the other player",
+  code: ({ why }) => (why === Why.WRONG_CODE ? "wrong codes were tried, so the code is another one" : "waiting for the other player"),
   away: ({ text }) => `waiting: ${text}`,
+  unanswered: ({ text }) => text,
   asks: ({ name, text, who }) => (who === undefined ? `${name} is asked; both see ${text}` : `${name} wants to join`),
   joined: ({ name, text }) => `with ${name}: both see ${text}`,
   left: ({ name }) => `${name} has left`,
   refused: ({ text }) => text,
   full: () => "looking for a way to the other one ..",
   blocked: () => "no way to the other one was found so far",
-  up: ({ text }) => `the line is up: ${text}`,
+  up: ({ text }) => `the line is up, ${text}`,
   ended: ({ text }) => text,
 };
 
@@ -260,7 +294,7 @@ function openLobby(open) {
   meeting?.close();
   openMeet();
   let lobby = null;
-  const mine = { close: () => lobby?.close() };
+  const mine = { isByCode: true, close: () => lobby?.close() };
   lobby = open({ ...lobbySettings(), told: (event) => meeting === mine && match === null && reactToLobby(event, lobby) });
   meeting = mine;
   tell("looking for the broker ..");
@@ -282,13 +316,13 @@ on("say-no", () => answerFirst(false));
 on("copy-code", () => navigator.clipboard.writeText(at("code").textContent));
 
 /** What the address says. */
-function openByAddress() {
+function openByAddress(hasLeft) {
   for (const [name, id] of [["broker", "meet-broker"], ["name", "player"], ["join", "their-code"]])
     if (options.has(name)) at(id).value = options.get(name);
   at("long-code").checked = options.has("long");
   at("relay-only").checked = options.has("relay");
   if (options.has("host")) host();
-  if (options.has("join")) join();
+  if (options.has("join") && !hasLeft) join(); // (a code is good for one match)
 }
 
 // ---- Watching.
@@ -324,9 +358,11 @@ for (const id of ["meet-broker", "player", "servers"]) at(id).value = localStora
 draw(at("canvas"), opening(2), 0, []);
 try {
   library = await Fazgrond.load();
-  tell(`library ${library.version}`);
+  const left = sessionStorage.getItem("left");
+  sessionStorage.removeItem("left");
+  tell(left ?? `library ${library.version}`);
   openMeet();
-  openByAddress();
+  openByAddress(left !== null);
 } catch (why) {
   tell(why.message);
 }

@@ -21,7 +21,7 @@ export interface SessionSettings {
   /** How many players there are, 1 to 8. */
   players: number;
   /** Those of this machine, from 1 on. */
-  local?: number[];
+  local: number[];
   /** How many frames the session may run ahead of the confirmed inputs. 8, or 15 with more than 4 players. */
   threshold?: number;
   /** `raw.GGPO` or `raw.WIDE`: by the number of players, if it isn't said. */
@@ -40,7 +40,7 @@ export interface MatchSettings {
   machines: number;
   /** The machine of each player, player 1 first. */
   owners: number[];
-  /** A number that all machines know, 64 random bits; or one with each of them. */
+  /** A number that all machines know, 64 random bits; or one with each of them. One of the two is needed. */
   number?: bigint;
   numbers?: bigint[];
   /** Drawn anew for each opening, if it isn't said. */
@@ -131,9 +131,9 @@ export class Fazgrond {
   line(session: Session<any>, settings: LineSettings): Line;
   viewer(settings: LineSettings): Viewer;
   habits(parts?: number[], likely?: number[]): Habits;
-  giver(which: bigint | number, frame: number, bytes: Uint8Array): Giver;
+  giver(which: bigint | number, frame: number, bytes: BufferSource): Giver;
   taker(name: raw.StateName, limit: number): Taker;
-  stateSender(bytes: Uint8Array): number | null;
+  stateSender(bytes: BufferSource): number | null;
   stateDigest(name: raw.StateName, digest: bigint): bigint;
 }
 
@@ -179,8 +179,18 @@ export class Job<State> {
   run(game: Game<State>): void;
 }
 
+/**
+ * A sync test: the first of some frames that comes out another when it is run again, or whose state before it has changed since it was
+ * saved; null if there is none. The frames have these words; so many at a time are run again.
+ */
+export function syncTest<State>(
+  game: Game<State> & Required<Pick<Game<State>, "digest">>,
+  rows: ArrayLike<number>[],
+  depth?: number,
+): number | null;
+
 export class Peer extends Handle {
-  receive(bytes: Uint8Array, now: number): number;
+  receive(bytes: BufferSource, now: number): number;
   poll(now: number): number;
   get isRunning(): boolean;
   send(machine: number, now: number): Uint8Array | null;
@@ -206,7 +216,7 @@ export class Peer extends Handle {
 }
 
 export class Line extends Handle {
-  receive(bytes: Uint8Array, now: number): number;
+  receive(bytes: BufferSource, now: number): number;
   send(now: number): Uint8Array | null;
   sendBefore(peer: Peer, now: number): Uint8Array | null;
   bye(): Uint8Array | null;
@@ -214,7 +224,7 @@ export class Line extends Handle {
 }
 
 export class Viewer extends Handle {
-  receive(bytes: Uint8Array, now: number): number;
+  receive(bytes: BufferSource, now: number): number;
   send(now: number): Uint8Array | null;
   bye(): Uint8Array | null;
   row(): Row | null;
@@ -223,13 +233,13 @@ export class Viewer extends Handle {
 
 export class Giver extends Handle {
   get name(): raw.StateName;
-  reply(number: bigint, me: number, bytes: Uint8Array, place: number): Uint8Array | null;
+  reply(number: bigint, me: number, bytes: BufferSource, place: number): Uint8Array | null;
 }
 
 export class Taker extends Handle {
   look(): raw.TakerState | null;
   send(number: bigint, me: number, most?: number): Uint8Array | null;
-  receive(number: bigint, bytes: Uint8Array): raw.Heard | null;
+  receive(number: bigint, bytes: BufferSource): raw.Heard | null;
   takesOf(machine: number): boolean;
   takeOf(machine: number): number;
   bytes(): Uint8Array | null;

@@ -1,7 +1,8 @@
 // Rollback sessions for games in a browser, over the library for C as WebAssembly. docs/WEB.md shows a whole game.
 //
 // What a game calls in each turn answers with a number of `Answer`: `Answer.OK`, or why it was refused. What is opened once throws a
-// `Refusal`. A word is an input of a player for a frame: 32 bits, as a number from 0 on.
+// `Refusal`. What no right program says (a setting that there isn't, a number that fits nowhere) is an error that names it. A word is
+// an input of a player for a frame: 32 bits, as a number from 0 on.
 import * as raw from "./raw.js";
 
 export { raw };
@@ -32,6 +33,60 @@ export function randomNumber() {
   do crypto.getRandomValues(bits);
   while (bits[0] === 0n);
   return bits[0];
+}
+
+// ---- What a game says. Nothing has changed if it can't be taken.
+
+const U8 = 0xff;
+const U32 = 0xffffffff;
+
+const shown = (value) => (typeof value === "string" ? JSON.stringify(value) : String(value));
+
+/** A whole number. */
+function whole(name, value, most = U32, least = 0) {
+  if (Number.isInteger(value) && value >= least && value <= most) return value;
+  throw new RangeError(`\`${name}\` is ${shown(value)}: a whole number from ${least} to ${most} is needed`);
+}
+
+/** A whole number of 64 bits. One that isn't a bigint has to be so small that JavaScript has it exactly. */
+function whole64(name, value) {
+  const big = typeof value === "bigint" || Number.isSafeInteger(value) ? BigInt(value) : -1n;
+  if (big >= 0n && big >> 64n === 0n) return big;
+  throw new RangeError(`\`${name}\` is ${shown(value)}: a whole number of 64 bits is needed, a bigint from 2^53 on`);
+}
+
+/** The whole numbers of a list. */
+function listOf(name, list, most = U32, least = 0) {
+  if (typeof list?.length !== "number") throw new TypeError(`\`${name}\` is ${shown(list)}: a list is needed`);
+  return Array.from(list, (one, at) => whole(`${name}[${at}]`, one, most, least));
+}
+
+/** What each place of a list has; where there is nothing, a value of its own. */
+function placesOf(name, list, count, missing, most = U32) {
+  if (list?.length > count) throw new RangeError(`\`${name}\` has ${list.length} places: ${count} are the most`);
+  const found = listOf(name, Array.isArray(list) ? Array.from(list, (one) => one ?? missing) : (list ?? []), most);
+  return Array.from({ length: count }, (_, at) => found[at] ?? missing);
+}
+
+/** Milliseconds of a clock, as 32 bits. */
+function clock(now) {
+  if (Number.isFinite(now)) return now >>> 0;
+  throw new RangeError(`\`now\` is ${shown(now)}: the milliseconds of a clock are needed`);
+}
+
+/** Bytes that came: of an ArrayBuffer, as a channel gives it, or of what is over one. */
+function octets(name, bytes) {
+  if (ArrayBuffer.isView(bytes)) return new Uint8Array(bytes.buffer, bytes.byteOffset, bytes.byteLength);
+  if (Object.prototype.toString.call(bytes) === "[object ArrayBuffer]") return new Uint8Array(bytes);
+  throw new TypeError(`\`${name}\` is ${shown(bytes)}: an ArrayBuffer or what is over one is needed`);
+}
+
+/** Settings have the names that there are, and those without which nothing can be opened. */
+function checkNames(what, given, known, needed) {
+  if (typeof given !== "object" || given === null) throw new TypeError(`${what} are ${shown(given)}: an object is needed`);
+  for (const name of Object.keys(given))
+    if (!known.includes(name)) throw new TypeError(`${what} have no \`${name}\`, but ${known.join(", ")}`);
+  for (const name of needed) if (given[name] === undefined) throw new TypeError(`${what} need \`${name}\``);
 }
 
 async function bytesOf(source) {
@@ -86,8 +141,9 @@ export class Fazgrond {
   /** The first epoch of a match whose sessions have these settings. Put the delays of other machines' players into it. */
   epoch(match, settings) {
     const { threshold, delays } = settingsOf(settings);
-    const { owners, machines, words = 1 } = match;
-    return { id: 0n, base: 0n, words, threshold, machines, owners: [...owners], delays: delays.slice(0, owners.length) };
+    const { owners, machines, words } = matchOf(match);
+    const players = owners.filter((owner) => owner !== raw.NO_PLAYER).length;
+    return { id: 0n, base: 0n, words, threshold, machines, owners: owners.slice(0, players), delays: delays.slice(0, players) };
   }
 
   /** Opens a host's end of a viewer's line, beside a session. */
@@ -117,15 +173,16 @@ export class Fazgrond {
 
   /** Which machine a datagram says that it is of, if it is for a giver or a taker; null if it is for a peer. */
   stateSender(bytes) {
-    if (bytes.length > raw.DATAGRAM) return null;
-    this.u8().set(bytes, this.bytes);
-    return this.calls.state_sender(this.bytes, bytes.length, this.room) === OK ? this.u8()[this.room] : null;
+    const found = octets("bytes", bytes);
+    if (found.length > raw.DATAGRAM) return null;
+    this.u8().set(found, this.bytes);
+    return this.calls.state_sender(this.bytes, found.length, this.room) === OK ? this.u8()[this.room] : null;
   }
 
   /** A match's digest that has a state in it, beside what another has. */
   stateDigest(name, digest) {
-    this.write(raw.StateName, this.room, name);
-    return BigInt.asUintN(64, this.calls.state_digest(this.room, BigInt(digest)));
+    this.write(raw.StateName, this.room, stateNameOf(name));
+    return BigInt.asUintN(64, this.calls.state_digest(this.room, whole64("digest", digest)));
   }
 
   // ---- Memory. It moves when it grows: views of it are empty then, and asked for anew.
@@ -243,32 +300,35 @@ class Handle {
   }
 }
 
+const SETTINGS = ["players", "local", "threshold", "profile", "limit", "log", "delays", "masks"];
+
 /** Settings as `fazgrond_settings_for` has them, with what the game says. */
 function settingsOf(given) {
+  checkNames("settings", given, SETTINGS, ["players", "local"]);
   const wide = given.players > 4;
+  const local = listOf("local", given.local, raw.PLAYERS, 1);
   return {
     size: raw.Settings.size,
-    profile: wide ? raw.WIDE : raw.GGPO,
-    players: given.players,
-    local: (given.local ?? []).reduce((bits, player) => bits | (1 << (player - 1)), 0) >>> 0,
-    threshold: given.threshold ?? (wide ? 15 : 8),
-    limit: given.limit ?? 1048576,
-    log: given.log ?? 16777216,
-    delays: Array.from({ length: raw.PLAYERS }, (_, at) => given.delays?.[at] ?? 0),
-    masks: Array.from({ length: raw.PLAYERS }, (_, at) => given.masks?.[at] ?? 0xffffffff),
-    ...(given.profile === undefined ? {} : { profile: given.profile }),
+    profile: whole("profile", given.profile ?? (wide ? raw.WIDE : raw.GGPO)),
+    players: whole("players", given.players),
+    local: local.reduce((bits, player) => bits | (1 << (player - 1)), 0),
+    threshold: whole("threshold", given.threshold ?? (wide ? 15 : 8)),
+    limit: whole("limit", given.limit ?? 1048576),
+    log: whole("log", given.log ?? 16777216),
+    delays: placesOf("delays", given.delays, raw.PLAYERS, 0),
+    masks: placesOf("masks", given.masks, raw.PLAYERS, U32),
   };
 }
 
 /** A session, which plays a game. It carries out its requests by itself. */
 export class Session extends Handle {
   constructor(library, settings, game) {
-    super(library);
     const told = settingsOf(settings);
+    super(library);
     library.write(raw.Settings, library.room, told);
     this.opened(library.calls.open(this.at, library.room));
     this.game = game;
-    this.local = [...(settings.local ?? [])];
+    this.local = [...settings.local];
     /** The states that the session has saved, by their slots. */
     this.states = [game.save()];
     /** Where the last advance led: the new frame, the one that it started from, and how many frames were run. */
@@ -320,17 +380,18 @@ export class Session extends Handle {
 
   /** A local player's word of this frame. */
   addLocalInput(player, word) {
-    return this.library.calls.add_local_input(this.open, player, word);
+    return this.library.calls.add_local_input(this.open, whole("player", player, U8), whole("word", word));
   }
 
   /** A remote player's next word, for a game with a network of its own. */
   remoteInput(player, frame, word) {
-    return this.library.calls.remote_input(this.open, player, frame, word, this.library.room);
+    const { calls, room } = this.library;
+    return calls.remote_input(this.open, whole("player", player, U8), whole("frame", frame), whole("word", word), room);
   }
 
   /** A remote player leaves, for a game with a network of its own. */
   disconnectPlayer(player) {
-    return this.library.calls.disconnect_player(this.open, player);
+    return this.library.calls.disconnect_player(this.open, whole("player", player, U8));
   }
 
   /** Rolls back if a prediction was wrong. */
@@ -358,6 +419,7 @@ export class Session extends Handle {
    */
   turn(words) {
     let code = words === null ? Answer.LOCAL_INPUT_MISSING : OK;
+    for (let at = 0; at < this.local.length && code === OK; at++) whole(`words[${at}]`, words?.[at]);
     for (let at = 0; at < this.local.length && code === OK; at++) {
       code = this.addLocalInput(this.local[at], words[at]);
       if (code === Answer.INPUT_TWICE) code = OK; // another player's word was refused after it
@@ -370,8 +432,9 @@ export class Session extends Handle {
   /** A guess: a job to carry out anywhere, or null if there is none; `answer` says why. */
   guess(player, words, until) {
     const { calls, room } = this.library;
-    this.library.u32().set(words.slice(0, 64), (room + 64) >>> 2);
-    return this.jobOf(calls.guess(this.open, player, room + 64, Math.min(words.length, 64), until, room));
+    const given = listOf("words", words).slice(0, 64);
+    this.library.u32().set(given, (room + 64) >>> 2);
+    return this.jobOf(calls.guess(this.open, whole("player", player, U8), room + 64, given.length, whole("until", until), room));
   }
 
   /** The job whose requests a guess has left, or null. */
@@ -379,11 +442,8 @@ export class Session extends Handle {
     this.answer = answer;
     if (answer !== OK) return null;
     const job = new Job(this.library.number(), this.epochs);
-    let count;
-    do {
-      count = this.take();
+    for (let count = this.take(); count > 0; count = this.take())
       for (let at = 0; at < count; at++) this.addToJob(job, this.library.u32(), placeOf(this.library, at));
-    } while (count === ROOM);
     return job;
   }
 
@@ -442,39 +502,42 @@ export class Session extends Handle {
 
   /** A settled row, or null. */
   settledRow(frame) {
-    return this.library.calls.settled_row(this.open, frame, this.library.room) === OK ? rowAt(this.library) : null;
+    return this.library.calls.settled_row(this.open, whole("frame", frame), this.library.room) === OK ? rowAt(this.library) : null;
   }
 
   /** How many words of a player are confirmed. */
   confirmed(player) {
-    return this.told(this.library.calls.confirmed(this.open, player, this.library.room));
+    return this.told(this.library.calls.confirmed(this.open, whole("player", player, U8), this.library.room));
   }
 
   /** The confirmed word of a player at a frame, or null. */
   confirmedWord(player, frame) {
-    return this.told(this.library.calls.confirmed_word(this.open, player, frame, this.library.room));
+    const { calls, room } = this.library;
+    return this.told(calls.confirmed_word(this.open, whole("player", player, U8), whole("frame", frame), room));
   }
 
   /** The frame in which a local player's next word counts. */
   inputFrame(player) {
-    return this.told(this.library.calls.input_frame(this.open, player, this.library.room));
+    return this.told(this.library.calls.input_frame(this.open, whole("player", player, U8), this.library.room));
   }
 
   /** The entry at a place of the log, or null. */
   logEntry(place) {
-    return this.library.calls.log_entry(this.open, place, this.library.room) === OK ? this.library.read(raw.Entry) : null;
+    const { calls, room } = this.library;
+    return calls.log_entry(this.open, whole("place", place), room) === OK ? this.library.read(raw.Entry) : null;
   }
 
   noteAdvantages(local, remote) {
-    return this.library.calls.note_advantages(this.open, local, remote);
+    const [least, most] = [-(2 ** 31), 2 ** 31 - 1];
+    return this.library.calls.note_advantages(this.open, whole("local", local, most, least), whole("remote", remote, most, least));
   }
 
   limitSlots(slots) {
-    return this.library.calls.limit_slots(this.open, slots);
+    return this.library.calls.limit_slots(this.open, whole("slots", slots));
   }
 
   reserveLog(events) {
-    return this.library.calls.reserve_log(this.open, events);
+    return this.library.calls.reserve_log(this.open, whole("events", events));
   }
 
   /** The text of the last rollback's claim, or null if there was none. */
@@ -491,7 +554,7 @@ export class Session extends Handle {
 
   // ---- Requests.
 
-  /** Takes requests, and says how many: fewer than `ROOM` if there are no more. */
+  /** Takes requests, and says how many: 0 if there are no more. Those of a seam come in two parts. */
   take() {
     return this.library.calls.take_requests(this.at, this.library.requests, ROOM);
   }
@@ -499,11 +562,8 @@ export class Session extends Handle {
   carryOut() {
     this.isBroken = true; // unless no function of the game throws
     const { library } = this;
-    let count;
-    do {
-      count = this.take();
+    for (let count = this.take(); count > 0; count = this.take())
       for (let at = 0; at < count; at++) this.carryOutOne(library.u32(), placeOf(library, at));
-    } while (count === ROOM);
     this.isBroken = false;
   }
 
@@ -567,13 +627,52 @@ export class Job {
   }
 }
 
+/**
+ * A sync test: does a game come out the same when it is run again? It runs frames with these words, `depth` at a time, goes back to the
+ * state before them and runs them once more. The first frame that comes out another, or whose state before it has changed since it was
+ * saved; null if there is none. The game needs its `digest`, and is afterwards at its last frame.
+ */
+export function syncTest(game, rows, depth = 8) {
+  const all = Array.from(rows, (words, frame) => Uint32Array.from(listOf(`rows[${frame}]`, words)));
+  whole("depth", depth, U32, 1);
+  for (let first = 0; first < all.length; first += depth) {
+    const found = firstOther(game, all.slice(first, first + depth));
+    if (found !== null) return first + found;
+  }
+  return null;
+}
+
+/** Which of some frames is the first that comes out another. */
+function firstOther(game, rows) {
+  const states = [game.save()];
+  const digests = [game.digest(states[0])];
+  const run = (words) => {
+    game.step(words.slice(), 0);
+    const state = game.save();
+    return { state, digest: game.digest(state) };
+  };
+  for (const words of rows) {
+    const { state, digest } = run(words);
+    states.push(state);
+    digests.push(digest);
+  }
+  game.load(states[0]);
+  const again = rows.map(run);
+  const other = again.findIndex(({ digest }, at) => digest !== digests[at + 1]);
+  const changed = states.findIndex((state, at) => game.digest(state) !== digests[at]);
+  for (const state of [...states, ...again.map((it) => it.state)]) game.free?.(state);
+  const found = [other, changed].filter((at) => at >= 0);
+  return found.length > 0 ? Math.min(...found) : null;
+}
+
 /** Datagrams of what has one other end, or several. */
 class Sealed extends Handle {
-  /** Puts bytes where calls read them, or answers that they are too many. */
+  /** Puts bytes where calls read them, and says how many they are; null if they are too many. */
   given(bytes) {
-    if (bytes.length > raw.DATAGRAM) return false;
-    this.library.u8().set(bytes, this.library.bytes);
-    return true;
+    const found = octets("bytes", bytes);
+    if (found.length > raw.DATAGRAM) return null;
+    this.library.u8().set(found, this.library.bytes);
+    return found.length;
   }
 
   /** A copy of the datagram that a call wrote, or null if there is none. */
@@ -582,57 +681,93 @@ class Sealed extends Handle {
   }
 }
 
+const MATCH = ["me", "machines", "owners", "number", "numbers", "draw", "digest", "silentAfter", "notifyAfter", "stalledAfter", "words",
+  "heldTurns", "carries"];
+
+/** The number that a match has with each machine. */
+function numbersOf({ me, machines, number, numbers }) {
+  if (number === undefined && numbers === undefined) throw new TypeError("matches need `number`, or `numbers` by machines");
+  return Array.from({ length: raw.MACHINES }, (_, at) => {
+    const one = numbers?.[at] ?? number;
+    if (one !== undefined) return whole64(numbers?.[at] === undefined ? "number" : `numbers[${at}]`, one);
+    if (at < machines && at !== me) throw new TypeError(`matches need \`numbers[${at}]\``);
+    return 0n;
+  });
+}
+
+/** A match as `fazgrond_match_for` has it, with what the game says. */
+function matchOf(given) {
+  checkNames("matches", given, MATCH, ["me", "machines", "owners"]);
+  return {
+    size: raw.Match.size,
+    numbers: numbersOf(given),
+    draw: whole64("draw", given.draw ?? randomNumber()),
+    digest: whole64("digest", given.digest ?? 0n),
+    me: whole("me", given.me),
+    machines: whole("machines", given.machines),
+    owners: placesOf("owners", given.owners, raw.PLAYERS, raw.NO_PLAYER),
+    silentAfter: whole("silentAfter", given.silentAfter ?? raw.SILENT_AFTER),
+    notifyAfter: whole("notifyAfter", given.notifyAfter ?? raw.NOTIFY_AFTER),
+    stalledAfter: whole("stalledAfter", given.stalledAfter ?? 0),
+    words: whole("words", given.words ?? 1),
+    heldTurns: whole("heldTurns", given.heldTurns ?? 0),
+  };
+}
+
+const EPOCH = ["id", "base", "words", "threshold", "machines", "owners", "delays"];
+
+function epochOf(given) {
+  checkNames("epochs", given, EPOCH, ["threshold", "owners"]);
+  return {
+    size: raw.Epoch.size,
+    words: whole("words", given.words ?? 1),
+    threshold: whole("threshold", given.threshold),
+    machines: whole("machines", given.machines ?? 0),
+    id: whole64("id", given.id ?? 0n),
+    base: whole64("base", given.base ?? 0n),
+    owners: placesOf("owners", given.owners, raw.PLAYERS, raw.NO_PLAYER),
+    delays: placesOf("delays", given.delays, raw.PLAYERS, 0),
+  };
+}
+
+const MARK = ["threshold", "delays", "comes", "ticket"];
+
+function markOf(given) {
+  checkNames("marks", given, MARK, []);
+  const comes = listOf("comes", given.comes ?? [], raw.PLAYERS, 1);
+  return {
+    size: raw.Mark.size,
+    threshold: whole("threshold", given.threshold ?? 0),
+    ticket: whole64("ticket", given.ticket ?? 0n),
+    comes: Array.from({ length: raw.PLAYERS }, (_, at) => (comes.includes(at + 1) ? 1 : 0)),
+    delays: placesOf("delays", given.delays, raw.PLAYERS, raw.AS_BEFORE),
+  };
+}
+
 /** The network of a match, at one of its machines. `now` is this machine's clock in whole milliseconds. */
 export class Peer extends Sealed {
   constructor(library, session, match, epoch) {
+    const [told, beside] = [matchOf(match), epoch === undefined ? null : epochOf(epoch)];
     super(library);
     this.session = session;
-    const one = match.number ?? 0n;
-    library.write(raw.Match, library.room, {
-      size: raw.Match.size,
-      numbers: Array.from({ length: raw.MACHINES }, (_, at) => match.numbers?.[at] ?? one),
-      draw: match.draw ?? randomNumber(),
-      digest: match.digest ?? 0n,
-      me: match.me,
-      machines: match.machines,
-      owners: Array.from({ length: raw.PLAYERS }, (_, at) => match.owners[at] ?? raw.NO_PLAYER),
-      silentAfter: match.silentAfter ?? 5000,
-      notifyAfter: match.notifyAfter ?? 750,
-      stalledAfter: match.stalledAfter ?? 0,
-      words: match.words ?? 1,
-      heldTurns: match.heldTurns ?? 0,
-    });
-    const { peer_open, peer_open_carrying } = library.calls;
-    if (epoch !== undefined) this.openLasting(epoch);
-    else this.opened((match.carries ? peer_open_carrying : peer_open)(this.at, session.open, library.room));
-  }
-
-  /** Opens it, once the match is written, with the epoch beside it. */
-  openLasting(epoch) {
-    const { library } = this;
-    const beside = library.room + raw.Match.size;
-    library.write(raw.Epoch, beside, {
-      size: raw.Epoch.size,
-      words: epoch.words ?? 1,
-      threshold: epoch.threshold,
-      machines: epoch.machines ?? 0,
-      id: epoch.id ?? 0n,
-      base: epoch.base ?? 0n,
-      owners: Array.from({ length: raw.PLAYERS }, (_, at) => epoch.owners[at] ?? raw.NO_PLAYER),
-      delays: Array.from({ length: raw.PLAYERS }, (_, at) => epoch.delays?.[at] ?? 0),
-    });
-    this.opened(library.calls.peer_open_lasting(this.at, this.session.open, library.room, beside));
+    const { calls, room } = library;
+    library.write(raw.Match, room, told);
+    if (beside !== null) {
+      library.write(raw.Epoch, room + raw.Match.size, beside);
+      this.opened(calls.peer_open_lasting(this.at, session.open, room, room + raw.Match.size));
+    } else this.opened((match.carries ? calls.peer_open_carrying : calls.peer_open)(this.at, session.open, room));
   }
 
   /** Takes a datagram that came. */
   receive(bytes, now) {
-    if (!this.given(bytes)) return Answer.NOT_SEALED;
-    return this.library.calls.peer_receive(this.open, this.session.open, this.library.bytes, bytes.length, now >>> 0);
+    const length = this.given(bytes);
+    if (length === null) return Answer.NOT_SEALED;
+    return this.library.calls.peer_receive(this.open, this.session.open, this.library.bytes, length, clock(now));
   }
 
   /** Once a turn, before the session's own calls. */
   poll(now) {
-    return this.library.calls.peer_poll(this.open, this.session.open, now >>> 0);
+    return this.library.calls.peer_poll(this.open, this.session.open, clock(now));
   }
 
   /** Whether the match has begun: give the session no words before. */
@@ -643,7 +778,8 @@ export class Peer extends Sealed {
   /** The datagram to send to a machine in this turn, or null. */
   send(machine, now) {
     const { calls, bytes, room } = this.library;
-    return this.written(calls.peer_send(this.open, this.session.open, machine, now >>> 0, bytes, raw.DATAGRAM, room));
+    const to = whole("machine", machine, U8);
+    return this.written(calls.peer_send(this.open, this.session.open, to, clock(now), bytes, raw.DATAGRAM, room));
   }
 
   /** After `send` to each other machine, what a peer that carries has to send besides, and to which machine; null if there is no more. */
@@ -657,12 +793,12 @@ export class Peer extends Sealed {
   /** The datagram that says to a machine that this one leaves, or null. Send it a few times. */
   bye(machine) {
     const { calls, bytes, room } = this.library;
-    return this.written(calls.peer_bye(this.open, machine, bytes, raw.DATAGRAM, room));
+    return this.written(calls.peer_bye(this.open, whole("machine", machine, U8), bytes, raw.DATAGRAM, room));
   }
 
   /** Regards a machine as gone, for good. */
   disconnect(machine) {
-    return this.library.calls.peer_disconnect(this.open, machine);
+    return this.library.calls.peer_disconnect(this.open, whole("machine", machine, U8));
   }
 
   /** Tells the others the digest of the settled state, if the game has a function for it. */
@@ -671,7 +807,7 @@ export class Peer extends Sealed {
     const settled = session.game.digest === undefined ? null : session.settledState();
     if (settled === null || settled.frame === session.noted) return OK;
     session.noted = settled.frame;
-    return this.library.calls.peer_note_settled(this.open, session.open, BigInt(session.game.digest(settled.state)));
+    return this.library.calls.peer_note_settled(this.open, session.open, whole64("digest", session.game.digest(settled.state)));
   }
 
   /** What happened, the oldest first; null if nothing did. */
@@ -681,7 +817,8 @@ export class Peer extends Sealed {
 
   /** What was counted and measured of a machine. */
   stats(machine) {
-    return this.library.calls.peer_stats(this.open, machine, this.library.room) === OK ? this.library.read(raw.Stats) : null;
+    const { calls, room } = this.library;
+    return calls.peer_stats(this.open, whole("machine", machine, U8), room) === OK ? this.library.read(raw.Stats) : null;
   }
 
   // ---- Words held back, with `heldTurns` in the match.
@@ -695,17 +832,18 @@ export class Peer extends Sealed {
 
   /** How many frames the session would have to run again for the first words that wait, or null. */
   rerun(count) {
-    return this.told(this.library.calls.peer_rerun(this.open, this.session.open, count, this.library.room));
+    return this.told(this.library.calls.peer_rerun(this.open, this.session.open, whole("count", count), this.library.room));
   }
 
   /** A guess with all words that wait: a job, or null; the session's `answer` says why. */
   guess(until) {
-    return this.session.jobOf(this.library.calls.peer_guess(this.open, this.session.open, until, this.library.room));
+    const { calls, room } = this.library;
+    return this.session.jobOf(calls.peer_guess(this.open, this.session.open, whole("until", until), room));
   }
 
   /** Hands the first words that wait over to the session. */
   handOver(count) {
-    return this.library.calls.peer_hand_over(this.open, this.session.open, count);
+    return this.library.calls.peer_hand_over(this.open, this.session.open, whole("count", count));
   }
 
   /** Once a turn: hands over the words that have waited long enough. */
@@ -730,20 +868,14 @@ export class Peer extends Sealed {
 
   /** Whether a machine is in this epoch and was in the one before: false of each in the epoch with which the peer was opened. */
   hasStayed(machine) {
-    return this.told(this.library.calls.peer_has_stayed(this.open, machine, this.library.room)) === 1;
+    return this.told(this.library.calls.peer_has_stayed(this.open, whole("machine", machine, U8), this.library.room)) === 1;
   }
 
   /** Puts a mark on the next word that a player of this machine gives: the epoch ends after that frame. */
   mark(player, mark = {}) {
     const { library } = this;
-    library.write(raw.Mark, library.room, {
-      size: raw.Mark.size,
-      threshold: mark.threshold ?? 0,
-      ticket: mark.ticket ?? 0n,
-      comes: Array.from({ length: raw.PLAYERS }, (_, at) => (mark.comes?.includes(at + 1) ? 1 : 0)),
-      delays: Array.from({ length: raw.PLAYERS }, (_, at) => mark.delays?.[at] ?? raw.AS_BEFORE),
-    });
-    return library.calls.peer_mark(this.open, this.session.open, player, library.room);
+    library.write(raw.Mark, library.room, markOf(mark));
+    return library.calls.peer_mark(this.open, this.session.open, whole("player", player, U8), library.room);
   }
 
   /** Who asks to come by a mark, and wasn't answered yet; null if nobody does. */
@@ -755,7 +887,7 @@ export class Peer extends Sealed {
 
   /** Says whether whoever is to come by this player's mark is welcome: all machines have to say the same. */
   answer(player, isWelcome) {
-    return this.library.calls.peer_answer(this.open, player, isWelcome ? 1 : 0);
+    return this.library.calls.peer_answer(this.open, whole("player", player, U8), isWelcome ? 1 : 0);
   }
 
   /** Goes on in the next epoch if this one is over; else the answer is `NOTHING`. The session's `reached` says at what frame it is. */
@@ -767,39 +899,44 @@ export class Peer extends Sealed {
   /** What is to be sent, after `send`, to a machine that may still be in the epoch before, or null. */
   sendBefore(machine, now) {
     const { calls, bytes, room } = this.library;
-    return this.written(calls.peer_send_before(this.open, machine, now >>> 0, bytes, raw.DATAGRAM, room));
+    return this.written(calls.peer_send_before(this.open, whole("machine", machine, U8), clock(now), bytes, raw.DATAGRAM, room));
   }
 }
 
-function writeLine(library, settings) {
-  library.write(raw.LineSettings, library.room, {
-    number: settings.number,
-    draw: settings.draw ?? randomNumber(),
-    digest: settings.digest ?? 0n,
-    host: settings.host,
-    machines: settings.machines,
-    owners: Array.from({ length: raw.PLAYERS }, (_, at) => settings.owners[at] ?? raw.NO_PLAYER),
-    silentAfter: settings.silentAfter ?? 0,
-  });
+const LINE = ["number", "draw", "digest", "host", "machines", "owners", "silentAfter"];
+
+function lineOf(given) {
+  checkNames("lines", given, LINE, ["number", "host", "machines", "owners"]);
+  return {
+    number: whole64("number", given.number),
+    draw: whole64("draw", given.draw ?? randomNumber()),
+    digest: whole64("digest", given.digest ?? 0n),
+    host: whole("host", given.host),
+    machines: whole("machines", given.machines),
+    owners: placesOf("owners", given.owners, raw.PLAYERS, raw.NO_PLAYER),
+    silentAfter: whole("silentAfter", given.silentAfter ?? raw.SILENT_AFTER),
+  };
 }
 
 /** A host's end of a viewer's line. */
 export class Line extends Sealed {
   constructor(library, session, settings) {
+    const told = lineOf(settings);
     super(library);
     this.session = session;
-    writeLine(library, settings);
+    library.write(raw.LineSettings, library.room, told);
     this.opened(library.calls.line_open(this.at, library.room));
   }
 
   receive(bytes, now) {
-    if (!this.given(bytes)) return Answer.NOT_SEALED;
-    return this.library.calls.line_receive(this.open, this.library.bytes, bytes.length, now >>> 0);
+    const length = this.given(bytes);
+    if (length === null) return Answer.NOT_SEALED;
+    return this.library.calls.line_receive(this.open, this.library.bytes, length, clock(now));
   }
 
   send(now) {
     const { calls, bytes, room } = this.library;
-    return this.written(calls.line_send(this.open, this.session.open, now >>> 0, bytes, raw.DATAGRAM, room));
+    return this.written(calls.line_send(this.open, this.session.open, clock(now), bytes, raw.DATAGRAM, room));
   }
 
   /**
@@ -808,7 +945,7 @@ export class Line extends Sealed {
    */
   sendBefore(peer, now) {
     const { calls, bytes, room } = this.library;
-    return this.written(calls.line_send_before(this.open, peer.open, now >>> 0, bytes, raw.DATAGRAM, room));
+    return this.written(calls.line_send_before(this.open, peer.open, clock(now), bytes, raw.DATAGRAM, room));
   }
 
   bye() {
@@ -817,27 +954,29 @@ export class Line extends Sealed {
   }
 
   look(now) {
-    return this.library.calls.line_look(this.open, now >>> 0, this.library.room) === OK ? this.library.read(raw.LineState) : null;
+    return this.library.calls.line_look(this.open, clock(now), this.library.room) === OK ? this.library.read(raw.LineState) : null;
   }
 }
 
 /** A viewer's end of a line. */
 export class Viewer extends Sealed {
   constructor(library, settings) {
+    const told = lineOf(settings);
     super(library);
-    writeLine(library, settings);
+    library.write(raw.LineSettings, library.room, told);
     this.opened(library.calls.viewer_open(this.at, library.room));
   }
 
   receive(bytes, now) {
-    if (!this.given(bytes)) return Answer.NOT_SEALED;
+    const length = this.given(bytes);
+    if (length === null) return Answer.NOT_SEALED;
     const { calls, room } = this.library;
-    return calls.viewer_receive(this.open, this.library.bytes, bytes.length, now >>> 0, room);
+    return calls.viewer_receive(this.open, this.library.bytes, length, clock(now), room);
   }
 
   send(now) {
     const { calls, bytes, room } = this.library;
-    return this.written(calls.viewer_send(this.open, now >>> 0, bytes, raw.DATAGRAM, room));
+    return this.written(calls.viewer_send(this.open, clock(now), bytes, raw.DATAGRAM, room));
   }
 
   bye() {
@@ -851,17 +990,32 @@ export class Viewer extends Sealed {
   }
 
   look(now) {
-    return this.library.calls.viewer_look(this.open, now >>> 0, this.library.room) === OK ? this.library.read(raw.LineState) : null;
+    return this.library.calls.viewer_look(this.open, clock(now), this.library.room) === OK ? this.library.read(raw.LineState) : null;
   }
+}
+
+const NAME = ["which", "frame", "length", "digest"];
+
+/** What a state is called. */
+function stateNameOf(given) {
+  checkNames("names of states", given, NAME, NAME);
+  if (given.digest.length !== raw.DIGEST_BYTES) throw new RangeError(`\`digest\` has ${given.digest.length} bytes: 32 are needed`);
+  return {
+    which: whole64("which", given.which),
+    frame: whole("frame", given.frame),
+    length: whole("length", given.length),
+    digest: placesOf("digest", given.digest, raw.DIGEST_BYTES, 0, U8),
+  };
 }
 
 /** Who gives a state to the other machines before a match. */
 export class Giver extends Sealed {
   constructor(library, which, frame, bytes) {
+    const [number, of, state] = [whole64("which", which), whole("frame", frame), octets("bytes", bytes)];
     super(library);
-    const at = library.allocate(Math.max(bytes.length, 1));
-    library.u8().set(bytes, at);
-    const code = library.calls.giver_open(this.at, BigInt(which), frame, at, bytes.length);
+    const at = library.allocate(Math.max(state.length, 1));
+    library.u8().set(state, at);
+    const code = library.calls.giver_open(this.at, number, of, at, state.length);
     library.calls.dealloc(at);
     this.opened(code);
   }
@@ -873,20 +1027,23 @@ export class Giver extends Sealed {
 
   /** The datagram for the piece that bytes ask for at this place of their list, or null. */
   reply(number, me, bytes, place) {
-    if (!this.given(bytes)) return null;
+    const length = this.given(bytes);
+    if (length === null) return null;
     const { calls, room, bytes: asked } = this.library;
     const to = asked + raw.DATAGRAM;
-    return this.written(calls.giver_reply(this.open, BigInt(number), me, asked, bytes.length, place, to, raw.DATAGRAM, room), to);
+    const told = [whole64("number", number), whole("me", me, U8), asked, length, whole("place", place)];
+    return this.written(calls.giver_reply(this.open, ...told, to, raw.DATAGRAM, room), to);
   }
 }
 
 /** Who takes a state before a match. */
 export class Taker extends Sealed {
   constructor(library, name, limit) {
+    const [told, most] = [stateNameOf(name), whole("limit", limit)];
     super(library);
-    library.write(raw.StateName, library.room, name);
-    this.length = name.length;
-    this.opened(library.calls.taker_open(this.at, library.room, limit));
+    library.write(raw.StateName, library.room, told);
+    this.length = told.length;
+    this.opened(library.calls.taker_open(this.at, library.room, most));
   }
 
   /** How many pieces the state has, and how many are missing. */
@@ -897,24 +1054,27 @@ export class Taker extends Sealed {
   /** The datagram that asks for the next missing pieces, or null if none is missing. */
   send(number, me, most = 4) {
     const { calls, bytes, room } = this.library;
-    return this.written(calls.taker_send(this.open, BigInt(number), me, most, bytes, raw.DATAGRAM, room));
+    const told = [whole64("number", number), whole("me", me, U8), whole("most", most)];
+    return this.written(calls.taker_send(this.open, ...told, bytes, raw.DATAGRAM, room));
   }
 
   /** What came of a datagram: `what` is `raw.PIECE_TAKEN` or the like. Null if it is refused. */
   receive(number, bytes) {
-    if (!this.given(bytes)) return null;
+    const length = this.given(bytes);
+    if (length === null) return null;
     const { calls, room, bytes: at } = this.library;
-    return calls.taker_receive(this.open, BigInt(number), at, bytes.length, room) === OK ? this.library.read(raw.Heard) : null;
+    const code = calls.taker_receive(this.open, whole64("number", number), at, length, room);
+    return code === OK ? this.library.read(raw.Heard) : null;
   }
 
   /** Whether pieces of a machine are taken for now. */
   takesOf(machine) {
-    return this.told(this.library.calls.taker_takes_of(this.open, machine, this.library.room)) === 1;
+    return this.told(this.library.calls.taker_takes_of(this.open, whole("machine", machine, U8), this.library.room)) === 1;
   }
 
   /** From now on pieces of this machine alone are taken, or with `raw.NO_MACHINE` of each that gave no wrong state. */
   takeOf(machine) {
-    return this.library.calls.taker_take_of(this.open, machine);
+    return this.library.calls.taker_take_of(this.open, whole("machine", machine, U8));
   }
 
   /** The state's bytes, or null if pieces are missing. */
@@ -930,23 +1090,24 @@ export class Taker extends Sealed {
 /** What a player may press next, by what was seen of the player. */
 export class Habits extends Handle {
   constructor(library, parts, likely) {
+    const [masks, words] = [listOf("parts", parts).slice(0, 64), listOf("likely", likely).slice(-64)];
     super(library);
     const { room } = library;
-    library.u32().set(parts.slice(0, 64), room >>> 2);
-    library.u32().set(likely.slice(-64), (room + 256) >>> 2);
-    this.opened(library.calls.habits_open(this.at, room, Math.min(parts.length, 64), room + 256, Math.min(likely.length, 64)));
+    library.u32().set(masks, room >>> 2);
+    library.u32().set(words, (room + 256) >>> 2);
+    this.opened(library.calls.habits_open(this.at, room, masks.length, room + 256, words.length));
   }
 
   /** Notes the player's next confirmed word. */
   note(word) {
-    return this.library.calls.habits_note(this.open, word);
+    return this.library.calls.habits_note(this.open, whole("word", word));
   }
 
   /** The best guesses of the next words, best first. */
   guesses(frames) {
     const most = 32;
     const { calls, room } = this.library;
-    const count = calls.habits_guesses(this.open, frames, room, most);
+    const count = calls.habits_guesses(this.open, whole("frames", frames), room, most);
     return Array.from({ length: count }, (_, at) => {
       const { count: length, worth, words } = this.library.read(raw.Foreseen, room + at * raw.Foreseen.size);
       return { words: words.slice(0, length), worth };

@@ -13,16 +13,19 @@ import { drawn, hex, numberOf } from "./bytes.js";
 const GONE_AFTER = 10000;
 const SHOWN_WITHIN = 5000;
 const ASKED_WITHIN = 10000;
-const WRONG_TRIES = 5; // that a code bears: one of 200,000 guesses it
+const WRONG_TRIES = 5; // that a code bears
+const WRONG_IN_ALL = 20; // that a lobby does: one of 50,000 guesses one of its codes
 const MOST_PROOFS = 2; // in a turn
 const MOST_KNOCKERS = 8;
 const MOST_GUESTS = 16;
+const MOST_GONE = 4096; // who have left, and whose old messages others may say again
 
 export class Host {
   constructor(lobby, { isShort = false, asks = false, players = 2, common = new Uint8Array(0) }) {
     Object.assign(this, { lobby, isShort, asks: asks || isShort, players, common });
-    Object.assign(this, { guests: new Map(), knockers: new Map(), gone: [], named: 0 });
+    Object.assign(this, { guests: new Map(), knockers: new Map(), gone: new Set(), named: 0 });
     Object.assign(this, { plate: "", wrong: 0, isTold: false, proofs: 0 });
+    Object.assign(this, { wrongInAll: 0, why: Why.NO_REASON });
   }
 
   async begin() {
@@ -32,6 +35,12 @@ export class Host {
     else this.enter(roomOf(this.code));
   }
 
+  /** Why it is another one than before, if it is. */
+  tellCode(text, why) {
+    this.isTold = true;
+    this.lobby.tell("code", { text, why });
+  }
+
   enter(room) {
     this.room = room;
     this.lobby.hearRoom(roomSubject(room));
@@ -39,10 +48,16 @@ export class Host {
 
   // ---- Short codes
 
+  /** What was said by a code doesn't count any more. */
+  forgetCode() {
+    for (const [id, one] of this.knockers) if (one.room === null) this.knockers.delete(id);
+    Object.assign(this, { wrong: 0, plate: "" });
+  }
+
   /** Another name under which this host is heard, and another secret; the door is asked for a plate. */
   renew() {
-    for (const [id, one] of this.knockers) if (one.room === null) this.knockers.delete(id);
-    Object.assign(this, { wrong: 0, plate: "", secret: drawShort() });
+    this.forgetCode();
+    this.secret = drawShort();
     const token = drawn(16);
     this.lobby.door.ask({ asks: Asks.HOSTS, plate: "", token });
     this.enter({ name: hex(token), key: null });
@@ -51,19 +66,27 @@ export class Host {
   hearPlate(plate) {
     if (this.plate === plate) return;
     this.plate = this.lobby.door.plate = plate;
-    this.lobby.tell("code", { text: writeShort(plate, this.secret) });
+    this.tellCode(writeShort(plate, this.secret), this.why);
+    this.why = Why.NO_REASON;
   }
 
-  /** Once the match is known there is no code any more after the last try. */
+  /** From now on friends come by the long code alone, which nobody guesses. Once the match is known there is none any more. */
+  endShortCode() {
+    this.forgetCode();
+    this.lobby.door.asks = Asks.RELAYS; // (by another answer of the door's the plate would be there again)
+    if (this.lobby.table !== null) return;
+    this.isShort = false;
+    this.enter(roomOf(this.code));
+    this.tellCode(writeCode(this.code), Why.WRONG_CODE);
+  }
+
   noteWrong() {
     this.wrong++;
+    this.wrongInAll++;
     if (this.wrong < WRONG_TRIES) return;
-    if (this.lobby.table === null) {
-      this.renew();
-    } else {
-      this.plate = "";
-      this.lobby.door.asks = Asks.RELAYS; // (by another answer of the door's the plate would be there again)
-    }
+    this.why = Why.WRONG_CODE;
+    if (this.lobby.table !== null || this.wrongInAll >= WRONG_IN_ALL) this.endShortCode();
+    else this.renew();
   }
 
   async hearKnock(body, reply) {
@@ -139,7 +162,7 @@ export class Host {
   /** By which room's key somebody asks, and what. */
   opened(body) {
     const known = [...this.guests.values(), ...this.knockers.values()].map((it) => it.room).filter((it) => it !== null);
-    for (const room of this.isShort ? known : [this.room])
+    for (const room of new Set(this.isShort ? known : [this.room, ...known]))
       try {
         return { room, ...openAsk(room, body) };
       } catch {
@@ -151,7 +174,7 @@ export class Host {
   async hearAsk(body, inbox) {
     const found = this.opened(body);
     const id = found === null ? null : hex(found.open);
-    if (id === null || this.gone.includes(id)) return;
+    if (id === null || this.gone.has(id)) return;
     const one = this.guests.get(id) ?? (await this.stranger(found, inbox));
     if (one === null) return;
     const came = readAsk(one.pair, found.rest);
@@ -194,7 +217,8 @@ export class Host {
 
   forget(id, one) {
     if (one.stage === "seated" || one.stage === "asks") this.lobby.tell("left", { name: one.name, who: one.who });
-    this.gone = [id, ...this.gone].slice(0, MOST_GUESTS);
+    this.gone.add(id);
+    if (this.gone.size > MOST_GONE) this.gone.delete(this.gone.keys().next().value);
     this.guests.delete(id);
   }
 
@@ -263,10 +287,7 @@ export class Host {
   // ---- A turn
 
   async turn(now) {
-    if (!this.isShort && !this.isTold && this.lobby.isThere) {
-      this.isTold = true;
-      this.lobby.tell("code", { text: writeCode(this.code) });
-    }
+    if (!this.isShort && !this.isTold && this.lobby.isThere) this.tellCode(writeCode(this.code), Why.NO_REASON);
     this.lookAtKnockers(now);
     for (const [id, one] of this.guests) {
       const isIn = one.stage === "seated" && this.lobby.table !== null;

@@ -8,10 +8,12 @@ import { Pair, codeOf, isVouched, roomOf } from "./keys.js";
 import { Pake } from "./pake.js";
 import { drawn, hex, isSame } from "./bytes.js";
 
-// Milliseconds: between two messages, and once there is a seat; and without an answer.
+// Milliseconds: between two messages, and once there is a seat; without an answer; and until it is believed that a code is wrong.
 const SAID_AGAIN = 500;
 const SEATED_AGAIN = 2000;
 const NEVER_ANSWERED = 10000;
+const BELIEVED = 3000;
+const MOST_KNOCKS = 3; // since who hears one can spoil its proof, and of one that isn't finished the host thinks that the code was wrong
 const UNANSWERED =
   "nobody who hosts a match with this code answers: the host is gone, or its game has an older version of this library";
 const Stage = { ASKS_DOOR: 0, KNOCKS: 1, SAYS_HELLO: 2, ASKS_TO_JOIN: 3, HAS_TABLE: 4 };
@@ -20,6 +22,7 @@ export class Guest {
   constructor(lobby, { code = null, plate = null, secret = null }) {
     Object.assign(this, { lobby, code, plate, secret, stage: Stage.SAYS_HELLO, pake: null, knock: null, host: null, hostName: null });
     Object.assign(this, { isSeated: false, isAsked: false, counter: 0, answers: 0, saidAt: null, heardAt: lobby.now });
+    Object.assign(this, { knocks: 0, hasKey: false, isUnheard: false, isWrong: false, wrongAt: lobby.now });
   }
 
   async begin() {
@@ -40,7 +43,8 @@ export class Guest {
   /** What is to be said now, until there is an answer. */
   sayAgain() {
     const { lobby, room } = this;
-    if (this.stage === Stage.KNOCKS) this.say(roomSubject(room), writeKnock(KINDS.KNOCK, this.knock));
+    const isKnocking = this.stage === Stage.KNOCKS && (this.pake !== null || this.hasKey);
+    if (isKnocking) this.say(roomSubject(room), writeKnock(KINDS.KNOCK, this.knock));
     if (this.stage === Stage.SAYS_HELLO) this.say(roomSubject(room), writeHello(room, lobby.keys.open));
     if (this.stage === Stage.ASKS_TO_JOIN) this.ask(false);
   }
@@ -52,9 +56,23 @@ export class Guest {
 
   // ---- What is heard
 
-  /** Nobody hears the host's subject. It may be away for a moment, if it was there before. */
+  /** What isn't sealed may be anybody's word: it ends nothing before its time, and the player is told of it once. */
+  tellDoubt(why, what, waits) {
+    this.lobby.tell("unanswered", { why, text: `${what}: waiting for ${waits / 1000} seconds at most` });
+  }
+
+  /** Nobody hears the host's subject, as it seems. */
   hearNobody() {
-    if (this.stage === Stage.KNOCKS || this.stage === Stage.SAYS_HELLO) this.lobby.end(Why.NO_SUCH_CODE);
+    if (this.isUnheard || (this.stage !== Stage.KNOCKS && this.stage !== Stage.SAYS_HELLO)) return;
+    this.isUnheard = true;
+    this.tellDoubt(Why.NO_SUCH_CODE, "nobody answers so far", NEVER_ANSWERED);
+  }
+
+  /** The code is wrong, as it seems. */
+  doubtCode() {
+    if (this.isWrong) return;
+    Object.assign(this, { isWrong: true, wrongAt: this.lobby.now });
+    this.tellDoubt(Why.WRONG_CODE, "the code's last four signs may be wrong", BELIEVED);
   }
 
   async hear(kind, { body }) {
@@ -69,7 +87,7 @@ export class Guest {
   }
 
   async hearOffer(body) {
-    if (this.stage !== Stage.SAYS_HELLO) return;
+    if (this.stage !== Stage.SAYS_HELLO && !this.hasKey) return;
     const came = readOffer(this.room, body);
     if (came.version !== VERSION) {
       this.lobby.end(Why.OTHER_LIBRARY);
@@ -78,8 +96,7 @@ export class Guest {
     if (!(await this.isOfHost(came))) return;
     this.host = await Pair.of(this.room, this.lobby.keys, came.speaks);
     this.hostName = inboxSubject(came.inbox);
-    this.stage = Stage.ASKS_TO_JOIN;
-    this.heardAt = this.lobby.now;
+    Object.assign(this, { stage: Stage.ASKS_TO_JOIN, hasKey: false, heardAt: this.lobby.now });
     this.ask(false);
   }
 
@@ -92,10 +109,17 @@ export class Guest {
       return;
     }
     this.room = { name: hex(token), key: null };
+    Object.assign(this, { stage: Stage.KNOCKS, heardAt: this.lobby.now });
+    await this.knockAnew();
+  }
+
+  /** A proof that was spoilt doesn't go on. */
+  async knockAnew() {
+    this.pake = null;
+    if (this.knocks === MOST_KNOCKS) return;
+    this.knocks++;
     this.pake = new Pake(false, this.plate, this.secret);
     this.knock = { id: drawn(KNOCK_ID), step: 1, bytes: await this.pake.turn(new Uint8Array(0)) };
-    this.stage = Stage.KNOCKS;
-    this.heardAt = this.lobby.now;
     this.sayAgain();
   }
 
@@ -103,24 +127,27 @@ export class Guest {
     if (this.stage !== Stage.KNOCKS) return;
     const came = readKnock(body);
     if (!isSame(came.id, this.knock.id) || came.step !== this.knock.step) return;
-    const bytes = came.isWrong ? null : await this.pake.turn(came.bytes);
-    this.heardAt = this.lobby.now;
-    if (came.isWrong || this.pake.state === "wrong") {
-      this.lobby.end(Why.WRONG_CODE);
-    } else if (this.pake.state === "done") {
-      await this.takeKey(came.more);
-    } else {
-      Object.assign(this.knock, { step: this.knock.step + 1, bytes });
-      this.sayAgain();
-    }
+    if (came.isWrong) this.doubtCode();
+    else if (this.pake !== null) await this.goOnKnocking(came.bytes);
+    if (!this.hasKey) return;
+    // What the host said last is behind the proof, sealed by the key that this makes.
+    await this.hearOffer(came.more).catch(() => {});
+    if (this.hasKey && !this.lobby.isOver) this.doubtCode();
   }
 
-  /** What the host said last is behind the key by which it is sealed. */
-  async takeKey(more) {
-    this.room.key = await this.pake.key();
-    this.stage = Stage.SAYS_HELLO;
-    await this.hearOffer(more).catch(() => {});
-    if (this.stage === Stage.SAYS_HELLO) this.lobby.end(Why.WRONG_CODE);
+  async goOnKnocking(came) {
+    const bytes = await this.pake.turn(came);
+    if (this.pake.state === "wrong") {
+      this.doubtCode();
+      await this.knockAnew();
+    } else if (this.pake.state === "done") {
+      this.room.key = await this.pake.key();
+      Object.assign(this, { pake: null, hasKey: true });
+    } else {
+      Object.assign(this.knock, { step: this.knock.step + 1, bytes });
+      this.heardAt = this.wrongAt = this.lobby.now;
+      this.sayAgain();
+    }
   }
 
   // ---- What the host answers
@@ -164,10 +191,12 @@ export class Guest {
 
   /** Time counts while the broker is there. */
   giveUp(now) {
-    if (!this.lobby.isThere || this.saidAt === null) this.heardAt = now;
-    if (now - this.heardAt < NEVER_ANSWERED) return;
-    if (this.stage === Stage.ASKS_TO_JOIN) this.lobby.end(Why.HOST_LEFT);
-    else this.lobby.end(Why.NO_SUCH_CODE, UNANSWERED);
+    if (!this.lobby.isThere || this.saidAt === null) this.heardAt = this.wrongAt = now;
+    const isAnswered = this.stage === Stage.ASKS_TO_JOIN;
+    if (!isAnswered && this.isWrong && now - this.wrongAt >= BELIEVED) this.lobby.end(Why.WRONG_CODE);
+    else if (now - this.heardAt < NEVER_ANSWERED) return;
+    else if (isAnswered) this.lobby.end(Why.HOST_LEFT);
+    else this.lobby.end(Why.NO_SUCH_CODE, this.isUnheard ? undefined : UNANSWERED);
   }
 
   close() {

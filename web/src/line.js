@@ -7,6 +7,21 @@ const NEVER = 30000;
 const MOST_TEXT = 4500; // bytes, of which a broker takes 8,000 with what seals them
 const MOST_ITEMS = 256; // that the other one may say: a browser has a few dozen ways
 
+/** What is told of a way by a relay alone: rows without this computer's addresses. */
+function hidden(text) {
+  const rows = text.split("\r\n").filter((row) => !/^(a=)?candidate:/.test(row) || row.includes(" typ relay"));
+  const plain = rows.map((row) => row.replace(/ raddr \S+ rport \d+/, " raddr 0.0.0.0 rport 0"));
+  return plain.map((row) => row.replace(/^([co]=.*)IN IP[46] \S+$/, "$1IN IP4 0.0.0.0")).join("\r\n");
+}
+
+/** The same of an item; null: nothing is left. */
+function withoutAddress({ description, candidate, ...more }) {
+  if (description !== undefined) return { description: { ...description, sdp: hidden(description.sdp) } };
+  if (candidate === undefined) return more;
+  const left = hidden(candidate.candidate);
+  return left === candidate.candidate || left !== "" ? { candidate: { ...candidate, candidate: left } } : null;
+}
+
 /** By which way the channel of a connection goes, in words. */
 async function wayOf(connection) {
   const stats = await connection.getStats();
@@ -14,14 +29,14 @@ async function wayOf(connection) {
   const chosen = stats.get(all.find((it) => it.type === "transport")?.selectedCandidatePairId);
   const pair = chosen ?? all.find((it) => it.type === "candidate-pair" && it.nominated && it.state === "succeeded");
   const kinds = [pair?.localCandidateId, pair?.remoteCandidateId].map((id) => stats.get(id)?.candidateType);
-  return kinds.includes("relay") ? "a relay" : "directly";
+  return kinds.includes("relay") ? "by a relay" : "directly";
 }
 
 export class Line {
   /** `isFirst` makes the offer. `say` carries a text to the other, and `told` is told "up", "blocked" or "never". */
   constructor({ isFirst, servers, relayOnly, say, told, now }) {
     this.connection = new RTCPeerConnection({ iceServers: servers, iceTransportPolicy: relayOnly ? "relay" : "all" });
-    Object.assign(this, { say, told, began: now, channel: null, isBlocked: false, isOver: false });
+    Object.assign(this, { say, told, relayOnly, began: now, channel: null, isBlocked: false, isOver: false });
     Object.assign(this, { items: [], heardOfUs: 0, heard: 0, owes: false, saidAt: now });
     this.connection.onicecandidate = ({ candidate }) => this.put(candidate ? { candidate: candidate.toJSON() } : { end: true });
     this.connection.ondatachannel = ({ channel }) => this.opens(channel);
@@ -57,7 +72,9 @@ export class Line {
   // ---- Texts
 
   put(item) {
-    this.items.push(item);
+    const told = this.relayOnly ? withoutAddress(item) : item;
+    if (told === null) return;
+    this.items.push(told);
     this.tell(this.items.length - 1);
   }
 

@@ -13,7 +13,7 @@ export const Why: {
   readonly HOST_LEFT: 5;
   readonly OTHER_LIBRARY: 6;
   readonly SYSTEM: 7;
-  /** The last four signs of a short code are wrong, or who answers doesn't know them. */
+  /** The last four signs of a short code are wrong, or who answers doesn't know them. With a host's code: somebody has tried wrong ones. */
   readonly WRONG_CODE: 8;
   /** The door was asked too often from this address. */
   readonly TOO_MANY: 9;
@@ -24,10 +24,14 @@ export const Why: {
 };
 
 export type LobbyEvent =
-  /** The host's code: friends join by it. A short one is another one after five wrong tries. */
-  | { what: "code"; text: string }
+  /** The host's code: friends join by it. A short one is another one after five wrong tries, and a long one after 20 in all: `why` is
+   * WRONG_CODE then. */
+  | { what: "code"; text: string; why: number }
   /** The broker or the door isn't there, and is tried again and again. */
   | { what: "away"; text: string }
+  /** At who joins: nobody hosts by this code, or its last four signs are wrong (`why`), as somebody says who may be anybody. It is waited for
+   * the host: `text` says for how long, and "ended" comes then. */
+  | { what: "unanswered"; why: number; text: string }
   /** `name` wants to join, and `who` is for `letIn`. At who joins, where there is no `who`: the player of `name`, who hosts, is asked. Both
    * see the same `text`, unless somebody stands between the two. */
   | { what: "asks"; name: string; who?: number; text: string }

@@ -1,7 +1,7 @@
 // What machines of a lobby, and the door, say to each other, as bytes: c/lobby/messages.h and c/lobby/door.h have them. What reads
 // throws if it is no such message, or is made by nobody who may.
 import { INBOX, KEY, PROOF, openForAll, openSealed, sealForAll } from "./keys.js";
-import { Reader, Writer, textBytes } from "./bytes.js";
+import { Reader, Writer, hex, textBytes } from "./bytes.js";
 import { readUser, writeUser } from "./pass.js";
 
 export const VERSION = 2;
@@ -138,7 +138,7 @@ function readTable(from) {
   const [code, host, proof] = [CODE, KEY, PROOF].map((size) => from.take(size));
   const members = Array.from({ length: machines }, () => ({ open: from.take(KEY), inbox: from.take(INBOX), name: readName(from) }));
   const length = from.number(2);
-  hold(length <= MOST_COMMON);
+  hold(length <= MOST_COMMON && new Set(members.map((it) => hex(it.open))).size === machines); // (no two have one key)
   const isLate = (flags & FLAGS.LATE) !== 0;
   return { me, players, owners: owners.slice(0, players), number, key, isLate, code, host, proof, members, common: from.take(length) };
 }

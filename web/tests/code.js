@@ -1,6 +1,7 @@
 // A machine that meets another one by a code, for tests: `?name=..&broker=ws://..` hosts, and leaves its code in the server's mailbox as
 // NAME-code; with `&join=CODE` it joins. Then it plays `frames`, or sends 60 datagrams if there are none, and posts what came of it as
 // its `name`. A player may look at the page for a while before that: `after` milliseconds.
+import { Line } from "/site/fazgrond/line.js";
 import { Lobby } from "/site/fazgrond/lobby.js";
 
 const BEGAN = performance.now();
@@ -10,6 +11,12 @@ const number = (name) => Number(options.get(name) ?? 0);
 const name = options.get("name");
 const post = (path, text) => fetch(path, { method: "POST", body: text });
 const events = [];
+const lines = new Set();
+const { put } = Line.prototype;
+Line.prototype.put = function (item) {
+  lines.add(this);
+  put.call(this, item);
+};
 
 /** What `lobby.js` takes. */
 function settings(told) {
@@ -82,7 +89,8 @@ async function run() {
   const kind = { ordered: channel.ordered, again: channel.maxRetransmits };
   const came = number("frames") > 0 ? await play(lobby.match) : await talk(lobby.match);
   setTimeout(() => lobby.close(), 500);
-  return { me, machines, names, kind, number: String(lobby.match.number), ...came };
+  const told = JSON.stringify([...lines].map(({ items }) => items));
+  return { me, machines, names, kind, told, number: String(lobby.match.number), ...came };
 }
 
 run()

@@ -75,6 +75,12 @@ def ended(found, words):
     return words in found.get("lacks", "")
 
 
+def is_doubted(found, words):
+    """Whether a page has said in these words what seems to be wrong, seconds before it ended."""
+    events = [it for it in found.get("events", []) if it["what"] in ("unanswered", "ended")]
+    return [it["what"] for it in events] == ["unanswered", "ended"] and words in events[0]["text"] and events[1]["at"] - events[0]["at"] > 2000
+
+
 def taken(found):
     """Milliseconds from the page's start to the open channel."""
     return next((it["at"] for it in found.get("events", []) if it["what"] == "ready"), None)
@@ -102,7 +108,7 @@ def plays(server, served, kinds, what, frames, speed, of_host, **of_both):
         wanted = state or found[1 - me].get("state")
         check(f"player {me + 1} in {kinds[me]}, {what}, {frames} frames", it.get("state") and it["state"] == wanted, str(it))
     ways = [it["text"] for one in found for it in one.get("events", []) if it["what"] == "up"]
-    due = "a relay" if "relay" in of_both else "directly"
+    due = "by a relay" if "relay" in of_both else "directly"
     check(f"{room}: the way is {due}", ways == [due, due], str(ways))
     words = [it["text"] for one in found for it in one.get("events", []) if it["what"] == "joined"]
     check(f"{room}: both see the same signs", len(words) == 2 and words[0] == words[1] and len(words[0]) == 9, str(words))
@@ -113,6 +119,7 @@ def short_codes(server, served, pairs):
     for kinds in pairs:
         code, found = plays(server, served, kinds, "by a short code", 600, 1, {"short": 1})
         check("it has seven signs", re.fullmatch(r"[0-9A-Z]{3}-[0-9A-Z]{4}", code), code)
+        check("its ways are told", all(" typ host" in it.get("told", "") for it in found), str(found))
         check("the line is as it has to be", all(it.get("kind") == {"ordered": False, "again": 0} for it in found), str(found))
         print(f"{' with '.join(kinds)}: from the friend's page to the open channel by a short code {taken(found[1])} ms", flush=True)
 
@@ -133,10 +140,21 @@ def late_friends(server, served, kind):
         server.post.clear(f"late-{what}-code-1")
 
 
+def tells_relays_alone(told):
+    """Whether a page has told places on relays, and neither where they were asked from nor an address of this machine. (The relay's own is the
+    loopback's.)"""
+    own = [it for it in run(["hostname", "-I"]).stdout.split() if it != "127.0.0.1"]
+    ways = re.findall(r"candidate:[^\"\\]*", told)
+    relays = [it for it in ways if " typ relay" in it and " raddr 0.0.0.0 rport 0" in it]
+    return len(relays) > 0 and len(relays) == sum(" typ " in it for it in ways) and not any(it in told for it in own)
+
+
 def relayed(server, served, pairs):
     """Through the relay alone, with the door's tickets."""
     for kinds in pairs:
         _, found = plays(server, served, kinds, "by the relay", 600, 1, {"short": 1}, relay=1)
+        for kind, it in zip(kinds, found):
+            check(f"a page of {kind} tells no address by a relay alone", tells_relays_alone(it.get("told", "")), str(it))
         print(f"{' with '.join(kinds)}: by a relay {taken(found[1])} ms", flush=True)
 
 
@@ -176,6 +194,7 @@ def wrong_codes(server, served, kind):
         check(f"a slip of the pen in {kind}", ended(joins(server, served, kind, "slip", other), "this is no code"))
     found = joins(server, served, kind, "gone", code)
     check(f"a code whose host is gone in {kind}", ended(found, "nobody hosts a match with this code now"), str(found))
+    check(f"it is told at once in {kind}", is_doubted(found, "nobody answers so far: waiting for 10 seconds at most"), str(found))
     found = joins(server, served, kind, "nobody", "ZZZ-ZZZZ")
     check(f"a plate of nobody's in {kind}", ended(found, "nobody hosts a match with this code now"), str(found))
     with pages((kind, url_of(server, served, "no-host", short=1, asks="no"))):
@@ -192,6 +211,7 @@ def wrong_signs(server, served, kind, port):
         for at in range(2):
             found = joins(server, served, kind, f"try-{at}", other_signs(code))
             check(f"wrong signs in {kind}", ended(found, wrong), str(found))
+            check(f"they are told at once in {kind}", is_doubted(found, "may be wrong: waiting for 3 seconds at most"), str(found))
         for _ in range(3):
             check("there are tries left", "tries-code-2" not in server.post.texts)
             said = by_bridge(served, other_signs(code), port).communicate(timeout=WAIT)
@@ -469,6 +489,25 @@ def by_address(server, served, kind):
         check(f"what the page's address says in {kind}", True)
 
 
+def loaded_anew(server, served, kind):
+    """A page that met by a code is loaded anew in the match: both players are told what to do, and the code isn't tried once more."""
+    words = f"{server.url}/site/index.html?bot=5&broker={served.url}"
+    with driver(kind) as one, driver(kind) as other:
+        one.go(f"{words}&host&name=Anna")
+        one.wait("return document.getElementById('code')?.textContent.length === 8")
+        other.go(f"{words}&name=Ben&join={one.run('return document.getElementById(`code`).textContent')}")
+        one.wait("return !document.getElementById('asks').hidden")
+        one.click("let-in")
+        for it in [one, other]:
+            it.wait("return !document.getElementById('match').hidden")
+        other.refresh()
+        again = "for another match host again, or ask the other one for a new code"
+        one.wait_until_told(f"the other one has left: {again}", 20)
+        other.wait_until_told(f"this page was loaded anew, and has left its match: {again}", 20)
+        time.sleep(1)
+        check(f"a page that is loaded anew in {kind}", other.run("return document.getElementById('told').textContent").startswith("this page"))
+
+
 def two_ask(server, served, kind):
     """Two friends ask the page's player at once, who is asked of one after the other."""
     asked = "return document.getElementById('asking').textContent"
@@ -527,6 +566,7 @@ def by_codes(server, kinds, port):
                  lambda served: with_native(server, served, kinds, port + 8),
                  lambda served: [whole_page(server, served, it) for it in both],
                  lambda served: [by_address(server, served, it) for it in kinds],
+                 lambda served: [loaded_anew(server, served, it) for it in kinds],
                  lambda served: [two_ask(server, served, it) for it in kinds],
                  lambda served: [no_way(server, served, kind) for kind in kinds],
                  lambda served: [strangers(server, served, kind) for kind in kinds],

@@ -6,7 +6,7 @@ const UNDER_WAY = 64;
 
 const { LEFT, DESYNC, TIME_SYNC } = { LEFT: 1101, DESYNC: 1102, TIME_SYNC: 1005 };
 const GONE = [LEFT, 1104, 1109]; // gone, dropped, cut off
-const NOTHING = 203;
+const [PENDING, NOTHING] = [202, 203];
 
 function must(code, answer = 0) {
   if (code !== answer) throw new Error(`the answer was ${code}`);
@@ -267,7 +267,9 @@ function lasting(library, me) {
   const match = { me, machines: 2, owners: [0, 1], number: 7n, draw: 70 + me };
   const session = library.session(settings, new Sum());
   const peer = library.peer(session, match, library.epoch(match, settings));
-  return { me, session, peer, epochs: [peer.epoch()], stayed: [stayed(peer)], here: [], coming: [], missing: 0 };
+  const isMarked = (turn) => turn === 40 + 60 * me;
+  const counts = { epochs: [peer.epoch()], stayed: [stayed(peer)], missing: 0 };
+  return { me, session, peer, isMarked, isWatched: true, here: [], coming: [], ...counts };
 }
 
 /** How many rows of the epoch before somebody isn't told, or wrongly, who begins to watch now. */
@@ -288,13 +290,13 @@ function missingOf(library, { me, session, peer, epochs }) {
 }
 
 function goOn(library, it) {
-  if (it.session.hasNews) it.session.synchronizeInput(); // so that all rows are told of the epoch that may be over
+  if (it.isWatched && it.session.hasNews) it.session.synchronizeInput(); // so that all rows are told of the epoch that may be over
   const code = it.peer.goOn();
   if (code === NOTHING) return;
   must(code);
   it.epochs.push(it.peer.epoch());
   it.stayed.push(stayed(it.peer));
-  if (it.epochs.length === 2) it.missing = missingOf(library, it);
+  if (it.isWatched && it.epochs.length === 2) it.missing = missingOf(library, it);
 }
 
 function lastingTurn(library, it, turn, frames) {
@@ -303,8 +305,8 @@ function lastingTurn(library, it, turn, frames) {
   must(peer.poll(turn * TURN));
   goOn(library, it);
   const frame = Number(it.epochs.at(-1).base) + session.frame;
-  if (turn === 40 + 60 * me) must(peer.mark(me + 1));
-  if (peer.isRunning) session.turn(frame < frames ? [pressedOf(me, frame)] : null);
+  if (it.isMarked(turn)) must(peer.mark(me + 1));
+  if (peer.isRunning && session.turn(frame < frames ? [pressedOf(me, frame)] : null) === PENDING) throw new Error("requests are left");
   return [peer.send(1 - me, turn * TURN), peer.sendBefore(1 - me, turn * TURN)].filter((bytes) => bytes !== null);
 }
 
@@ -329,6 +331,32 @@ export function epochs(library) {
     session.close();
   }
   return told.join("");
+}
+
+/** Two machines, one of which ends epochs, hear each other so many turns late. No call of theirs stands between the poll and the seam. */
+function seamsOver(library, marker, lag) {
+  const isMarked = (turn) => [30, 70, 110, 150].includes(turn);
+  const both = [0, 1].map((me) => ({ ...lasting(library, me), isWatched: false, isMarked: me === marker ? isMarked : () => false }));
+  const ways = both.map(() => Array.from({ length: lag }, () => []));
+  for (let turn = 0; turn < 600; turn++)
+    for (const it of both) {
+      it.here = ways[it.me].shift();
+      ways[1 - it.me].push(lastingTurn(library, it, turn, 200));
+    }
+  const [one, two] = both.map(({ epochs: seen }) => seen.map(({ id }) => id).join(" "));
+  const told = both.map(({ session, epochs: seen }) => {
+    const settled = Number(seen.at(-1).base) + session.settled;
+    return `settled ${settled} state ${session.game.state}, ${one === two && seen.length > 4 ? "the same" : "other"} epochs\n`;
+  });
+  for (const { peer, session } of both) {
+    peer.close();
+    session.close();
+  }
+  return told.join("");
+}
+
+export function seams(library) {
+  return seamsOver(library, 0, 1) + seamsOver(library, 1, 3) + seamsOver(library, 0, 5);
 }
 
 /** Nanoseconds of a turn of one of two machines, with a datagram that comes and one that goes: the least of some runs. */

@@ -2,7 +2,8 @@
 // writes is a check that failed, and the last one says how many there were.
 import { N, Pake } from "./src/pake.js";
 import {
-  Asks, DOOR, KINDS, Says, VERSION, inboxSubject, openAsk, readAsk, readKnock, readOffer, writeAnswer, writeHello, writeKnock, writeOffer,
+  Asks, DOOR, DoorSays, KINDS, Says, VERSION, inboxSubject, openAsk, readAsk, readKnock, readOffer, writeAnswer, writeAsk, writeHello, writeKnock,
+  writeOffer,
 } from "./src/messages.js";
 import { Connection } from "./src/broker.js";
 import { Door } from "./src/door.js";
@@ -12,6 +13,7 @@ import { Line } from "./src/line.js";
 import { Lobby } from "./src/lobby.js";
 import { bytesOf, drawn, joined, textBytes } from "./src/bytes.js";
 import { Pair, codeOf, drawHost, drawKeys, readCode, roomOf, sealForAll } from "./src/keys.js";
+import { Why } from "./src/reasons.js";
 import { readUser } from "./src/pass.js";
 
 const counts = { checks: 0, failed: 0 };
@@ -121,10 +123,11 @@ async function moreThanDue() {
 
 /** What a side needs of a lobby. `said` is what it has said. */
 async function lobbyOf() {
-  const lobby = { now: 0, isThere: true, isReady: false, table: null, name: "Anna", digest: 0n, said: [], told: [] };
+  const lobby = { now: 0, isThere: true, isReady: false, isOver: false, table: null, name: "Anna", digest: 0n, said: [], told: [] };
   lobby.say = (subject, body) => lobby.said.push({ subject, body });
   lobby.tell = (what, more) => lobby.told.push({ what, ...more });
   lobby.begins = (table) => Object.assign(lobby, { table });
+  lobby.end = (why) => Object.assign(lobby, { isOver: true, why });
   lobby.hearRoom = () => {};
   lobby.connection = { hear() {} };
   const inbox = drawn(32);
@@ -174,8 +177,89 @@ async function forgedTables({ lobby, guest, room, speaks, host, code }) {
   await begins("a match in which a guest is its host", false, 3, 0, [open, speaks.open]);
   await begins("a match in a place that isn't there", false, 4, 2, [speaks.open, open]);
   await begins("a match with a player of no machine", false, 5, 1, [speaks.open, open], { owners: [0, 2] });
+  await begins("a match of two machines with one key", false, 6, 1, [speaks.open, open, speaks.open], { players: 3, owners: [0, 1, 2] });
   await begins("a match that is told again", false, 3, 1, [speaks.open, open]);
-  await begins("the host's own match", true, 6, 1, [speaks.open, open]);
+  await begins("the host's own match", true, 7, 1, [speaks.open, open]);
+}
+
+const doubts = (lobby) => lobby.told.filter(({ what }) => what === "unanswered").map(({ why, text }) => `${why} ${text}`).join();
+
+/** Who says that nobody hears a room, which anybody can, ends nothing before ten seconds. */
+async function falseNobody() {
+  const lobby = await lobbyOf();
+  const guest = new Guest(lobby, { code: codeOf((await drawHost()).host) });
+  await guest.begin();
+  await guest.turn(0);
+  for (let times = 0; times < 10; times++) guest.hearNobody();
+  check("what is told at once", doubts(lobby), `${Why.NO_SUCH_CODE} nobody answers so far: waiting for 10 seconds at most`);
+  for (lobby.now = 0; lobby.now < 10000; lobby.now += 500) await guest.turn(lobby.now);
+  check("it is waited for ten seconds", lobby.isOver, false);
+  await guest.turn(lobby.now);
+  check("and no longer", lobby.why, Why.NO_SUCH_CODE);
+}
+
+/** A guest that has knocked by a short code. */
+async function knocking(secret) {
+  const lobby = await lobbyOf();
+  const guest = new Guest(lobby, { plate: PLATE, secret });
+  lobby.door.ask = () => {};
+  await guest.begin();
+  await guest.hearDoor({ says: DoorSays.OK, token: drawn(16) });
+  const says = (more) => guest.hear(KINDS.KNOCKED, { body: writeKnock(KINDS.KNOCKED, { ...guest.knock, bytes: NOTHING, ...more }) });
+  return { lobby, guest, says };
+}
+
+/** A host's answer to what a guest has knocked with last. */
+async function answered(host, { lobby, guest }) {
+  const reply = inboxSubject(lobby.inbox);
+  await host.side.turn(host.now);
+  await host.side.hear(KINDS.KNOCK, { reply, body: writeKnock(KINDS.KNOCK, guest.knock) });
+  return host.said.at(-1).body;
+}
+
+/** Who hears a friend knock, and answers in the host's place, ends nothing either: the host's own answer lets it in. */
+async function falseKnocked() {
+  const host = await hosting();
+  const it = await knocking(host.side.secret);
+  const { lobby, guest, says } = it;
+  for (let times = 0; times < 10; times++) await says({ isWrong: true });
+  check("what is told at once", doubts(lobby), `${Why.WRONG_CODE} the code's last four signs may be wrong: waiting for 3 seconds at most`);
+  await says({ bytes: drawn(300) });
+  await says({});
+  check("proofs that are spoilt are begun anew", guest.knocks, 3);
+  await guest.hear(KINDS.KNOCKED, { body: await answered(host, it) });
+  const last = await answered(host, it);
+  await says({ isWrong: true });
+  await guest.hear(KINDS.KNOCKED, { body: Uint8Array.from(last, (byte, at) => (at === last.length - 1 ? byte ^ 1 : byte)) });
+  check("it ends nothing", lobby.isOver, false);
+  await guest.hear(KINDS.KNOCKED, { body: last });
+  check("the friend asks to be let in", lobby.said.at(-1).body[0], KINDS.ASK);
+  lobby.now += 5000;
+  await guest.turn(lobby.now);
+  check("and nothing is believed any more", lobby.isOver, false);
+}
+
+/** What isn't answered otherwise is believed after three seconds. */
+async function wrongSigns() {
+  const { lobby, guest, says } = await knocking("0000");
+  for (let times = 0; times < 6; times++) await says({ bytes: drawn(200) });
+  check("a guest knocks so often", guest.knocks, 3);
+  lobby.now = 2900;
+  await guest.turn(lobby.now);
+  check("it is waited for three seconds", lobby.isOver, false);
+  lobby.now = 3000;
+  await guest.turn(lobby.now);
+  check("and no longer, for a wrong code", lobby.why, Why.WRONG_CODE);
+}
+
+/** Who has left isn't brought back by what it said, however many have left behind it, up to 4,096. */
+function ghosts() {
+  const lobby = { tell() {} };
+  const host = new Host(lobby, {});
+  for (let at = 0; at < 5000; at++) host.forget(`guest ${at}`, { stage: "refused" });
+  check("who left long ago", host.gone.has("guest 903"), false);
+  check("4,096 are remembered", host.gone.has("guest 904") && host.gone.has("guest 4999"), true);
+  check("and no more", host.gone.size, 4096);
 }
 
 /** Who has a code can't keep its host busy by long messages: they aren't opened. */
@@ -232,6 +316,43 @@ async function triesAtOnce() {
   }
   check("tries of those at once", wrong, 5);
   check("then there is another secret", before !== lobby.side.secret && lobby.side.plate === "", true);
+}
+
+/** Whose word a host takes who has shown that it knows the code: what it asks for, sealed. */
+async function comesIn(lobby) {
+  const guest = stranger(lobby.side.secret);
+  const first = await knocks(lobby, guest, await guest.turn(NOTHING));
+  const last = await knocks(lobby, guest, await guest.turn(first.bytes));
+  await guest.turn(last.bytes);
+  const room = { name: lobby.side.room.name, key: await guest.key() };
+  const keys = await drawKeys();
+  const pair = await Pair.of(room, keys, lobby.keys.open);
+  return (counter) => writeAsk(room, pair, { counter, leaves: false, digest: lobby.digest, name: "Ben" });
+}
+
+/** Twenty tries are all: then there is the long code, and the page is told why. Who has come in before stays. */
+async function allTries() {
+  const lobby = await hosting();
+  const asks = await comesIn(lobby);
+  const inbox = inboxSubject(drawn(32));
+  await lobby.side.hear(KINDS.ASK, { reply: inbox, body: asks(1) });
+  const codes = () => lobby.told.filter(({ what }) => what === "code");
+  for (let at = 0; at < 4; at++) {
+    check("a short code", codes().at(-1).text.length, 8);
+    for (const it of Array.from({ length: 5 }, () => stranger(SECRET))) await knocks(lobby, it, await it.turn(NOTHING));
+    lobby.now += 5000;
+    await lobby.side.turn(lobby.now);
+    await lobby.side.hear(KINDS.ASK, { reply: inbox, body: asks(2 + at) });
+    if (at < 3) lobby.side.hearPlate(`KX${at}`);
+  }
+  check("why codes are others", codes().map(({ why }) => why).join(), [0, 8, 8, 8, 8].join());
+  check("a long one", readCode(codes()[4].text)?.plate, undefined);
+  const late = stranger(SECRET);
+  check("who knocks then", await knocks(lobby, late, await late.turn(NOTHING)), null);
+  check("who came in before", lobby.side.guests.size, 1);
+  const said = lobby.said.length;
+  await lobby.side.hear(KINDS.HELLO, { reply: inbox, body: writeHello(roomOf(lobby.side.code), drawn(32)) });
+  check("who comes by the long one", lobby.said.length - said, 1);
 }
 
 /** Who says again what another one knocked with isn't told what that one is told. */
@@ -493,13 +614,43 @@ async function ways() {
   line.close();
 }
 
+/** By a relay alone the other is told of places on relays, and of no address of this computer. */
+function hiddenWays() {
+  const said = [];
+  const line = new Line({ isFirst: false, servers: [], relayOnly: true, say: (it) => said.push(it), told() {}, now: 0 });
+  const [relay, relay6] = ["203.0.113.10 50000 typ relay", "2001:db8::a0 50000 typ relay"];
+  const ways = [
+    "192.0.2.2 4000 typ host generation 0", "fd00::2 4001 typ host", "9b36eaac-bb2e.local 4002 typ host", `${relay} raddr 192.0.2.2 rport 4003`,
+    "198.51.100.7 40000 typ srflx raddr 192.0.2.2 rport 4000", `${relay6} raddr fd00::2 rport 4004 generation 0`,
+  ].map((it, at) => `candidate:${at} 1 udp 41885439 ${it}`);
+  const sdp = ["v=0", "o=- 1 2 IN IP4 192.0.2.2", "s=-", "m=application 4000 UDP/DTLS/SCTP webrtc-datachannel", "c=IN IP6 fd00::2",
+    ...ways.map((it) => `a=${it}`), "a=ice-ufrag:Anna", ""].join("\r\n");
+  line.put({ description: { type: "offer", sdp } });
+  for (const candidate of [...ways, ""]) line.put({ candidate: { candidate, sdpMid: "0" } });
+  line.put({ end: true });
+  for (const own of ["192.0.2.2", "fd00::2", ".local", "198.51.100.7"]) check(`the address ${own}`, said.some((it) => it.includes(own)), false);
+  const items = said.flatMap((it) => JSON.parse(it).items);
+  const told = items.flatMap(({ candidate }) => candidate?.candidate ?? []);
+  const due = [relay, relay6].map((it, at) => `candidate:${3 + 2 * at} 1 udp 41885439 ${it} raddr 0.0.0.0 rport 0${at === 0 ? "" : " generation 0"}`);
+  check("the places that are told", told.join(), [...due, ""].join());
+  const rows = items[0].description.sdp.split("\r\n");
+  check("the rows that are told", rows.length, sdp.split("\r\n").length - 4);
+  check("those of places", rows.filter((it) => it.startsWith("a=candidate")).join(), due.map((it) => `a=${it}`).join());
+  line.close();
+}
+
 await forgedNumbers();
 await moreThanDue();
 await forgedOffers();
+await falseNobody();
+await falseKnocked();
+await wrongSigns();
+ghosts();
 longMessages();
 await triesAtOnce();
 await knocksAgain();
 await triesUnshown();
+await allTries();
 await triesInAMatch();
 await flood();
 endless();
@@ -507,5 +658,6 @@ await greetings();
 await withPass();
 await older();
 await ways();
+hiddenWays();
 console.log(`${counts.checks} checks, ${counts.failed} failed`);
 process.exit(counts.failed > 0 ? 1 : 0);

@@ -5,6 +5,7 @@ import os
 import shutil
 import sys
 
+from bridges import strangers_end_nothing
 from checks import ROOT, WEB, check, has, run, skip
 
 sys.path.insert(0, str(WEB))
@@ -130,6 +131,7 @@ def seals_agree(room):
         skip(f"what lobbies of pages seal ({why})")
         return
     bridge_agrees(sodium)
+    strangers_end_nothing()
     shutil.copytree(WEB / "src", room / "src")
     for name in ["seals.js", "liars.js"]:
         shutil.copy(WEB / "tests" / name, room)

@@ -128,6 +128,10 @@ def whole_page(server, kinds, picture=None):
         met(other, one)
         other.wait_until_told("the match begins")
         check(f"another match on the same page in {what}", True)
+        one.refresh()
+        other.wait_until_told("the other one has left: for another match make a new invitation")
+        one.wait_until_told("this page was loaded anew, and has left its match: for another match make a new invitation")
+        check(f"a page that is loaded anew in {what}", True)
 
 
 def wrong_texts(server, kind):

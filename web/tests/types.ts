@@ -1,5 +1,5 @@
 // A game in TypeScript, as the compiler has to take it; and what it has to refuse.
-import { Answer, Code, Fazgrond, Refusal, raw } from "fazgrond";
+import { Answer, Code, Fazgrond, Refusal, raw, syncTest } from "fazgrond";
 import type { Game, Job, Row, Session } from "fazgrond";
 import { Lobby, Why } from "fazgrond/lobby.js";
 import type { LobbyEvent } from "fazgrond/lobby.js";
@@ -38,6 +38,9 @@ export async function play(channel: RTCDataChannel, me: 0 | 1): Promise<number> 
     if (event.code === Code.TIME_SYNC) console.log(event.framesAhead + 1);
   const bytes: Uint8Array | null = peer.send(1 - me, 16);
   if (bytes !== null) channel.send(bytes);
+  channel.onmessage = ({ data }: { data: ArrayBuffer }) => peer.receive(data, 16);
+  const frame: number | null = syncTest(new Places(), [[1, 2], new Uint32Array(2)], 4);
+  if (frame !== null) throw new Error(`frame ${frame} comes out another`);
   const more: { machine: number; bytes: Uint8Array } | null = library.peer(session, {
     me, machines: 3, owners: [0, 1, 2], number: 7n, carries: true,
   }).sendMore();
