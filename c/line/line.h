@@ -50,7 +50,8 @@ typedef struct faz_line_relay {
 /* Set it to zeros first. All that it points at is copied. */
 typedef struct faz_line_settings {
     uint32_t me, other;   /* machines of the match */
-    faz_line_keys *keys;  /* this machine's; they are set to zeros, since a second line with them could be read by anybody */
+    faz_line_keys *keys;  /* this machine's; they are set to zeros, since of a second line with them and the same `their` whoever recorded
+                           * both could read datagrams */
     const uint8_t *their; /* the open key of the other machine */
     const char *stun;     /* the address of a STUN server, which tells a machine how the internet sees it; or null. If it has one of
                            * IPv4, that: by IPv6 few machines are seen otherwise than they see themselves */

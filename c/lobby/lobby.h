@@ -1,6 +1,7 @@
 /* A lobby: the machines of a match meet by a code, agree on what they play, and get a line with each other (../line/line.h),
  * over the internet or a LAN. One of them hosts and gets the code; its player tells it to friends, who join by it. A broker
- * (NATS) carries what they say until the lines are there, and signals for as long as the match lasts; it can read none of it.
+ * (NATS) carries what they say until the lines are there, and signals for as long as the match lasts. docs/ONLINE.md, "What others can
+ * see and do", says what can be read of it, and who could stand between two.
  *
  *     faz_lobby *lobby = faz_lobby_host(&settings, &why);          // or faz_lobby_join(&settings, code, &why)
  *     ..
