@@ -581,9 +581,10 @@ int32_t fazgrond_peer_is_pressed(fazgrond_peer *peer, fazgrond_session *session,
  *   fazgrond_peer_receive for each datagram that came, then fazgrond_peer_poll;
  *   fazgrond_peer_is_running: until it says 1, give no words, and skip the next three lines;
  *   fazgrond_peer_answer, if fazgrond_peer_ask has somebody who asks to come;
+ *   fazgrond_peer_event until there is none: what waits at a seam is forgotten, and not told again;
  *   fazgrond_peer_go_on: if it is FAZGROND_OK, carry out the requests;
  *   local words, the advance and its requests, as in any match;
- *   fazgrond_peer_event until there is none. For each other machine fazgrond_peer_send, and then fazgrond_peer_send_before. Then
+ *   fazgrond_peer_event again. For each other machine fazgrond_peer_send, and then fazgrond_peer_send_before. Then
  *   fazgrond_peer_send_more until there is nothing. */
 
 /* The owner of a player whom nobody owns now, and whom somebody who comes may get. It is another thing than FAZGROND_NO_PLAYER: such a
@@ -688,8 +689,8 @@ int32_t fazgrond_peer_mark(fazgrond_peer *peer, fazgrond_session *session, uint8
 int32_t fazgrond_peer_ask(fazgrond_peer *peer, fazgrond_ask *ask);
 
 /* Says whether whoever is to come by this player's mark is welcome (not 0) or isn't (0). All machines of the match have to say the same,
- * so go by the ticket alone: test a signature of whoever arranges the match, say. FAZGROND_NOTHING: the match doesn't go on in
- * epochs. */
+ * or it stands, or falls into parts, and no event says why. So go by the ticket alone: test a signature of whoever arranges the match,
+ * say. FAZGROND_NOTHING: the match doesn't go on in epochs. */
 int32_t fazgrond_peer_answer(fazgrond_peer *peer, uint8_t player, uint32_t is_welcome);
 
 /* Goes on in the next epoch, if this one is over. Call it in each turn, after fazgrond_peer_poll and before the session is given words.

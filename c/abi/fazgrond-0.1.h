@@ -22,7 +22,7 @@ extern "C" {
 #endif
 
 /* The version of this header: major << 16 | minor << 8 | patch. docs/VERSIONS.md says what raises which of them. */
-#define FAZGROND_VERSION 0x000102
+#define FAZGROND_VERSION 0x000103
 
 /* The version of the library that the program runs with. While the major number is 0, a library fits a header with the same major
  * and minor number. If a library knows another size of fazgrond_settings, fazgrond_match or fazgrond_epoch than the header, it opens
@@ -330,6 +330,11 @@ typedef struct fazgrond_peer {
 /* The most machines of a match. */
 #define FAZGROND_MACHINES 8
 
+/* The `silent_after` and `notify_after` with which a match begins in C++ and the other languages, and the `silent_after` of a line in
+ * these. In C they are 0 at first, until 0.2.0. */
+#define FAZGROND_SILENT_AFTER 5000
+#define FAZGROND_NOTIFY_AFTER 750
+
 /* The players, limits and masks of the session are the same at each machine, and its local players are those that `me` owns; so
  * are `digest`, `machines`, `owners` and `words`, and the number of each two machines at both of them. Begin with
  * fazgrond_match_for, so that members which a later version adds have a value too.
@@ -357,7 +362,7 @@ typedef struct fazgrond_match {
                                           * it gives no words; 0: it never is, and the match may stand for good */
     uint32_t words;                      /* of how many words a player's input is, 1 to 4: so many of the session's players in a row
                                           * are one player of the match, with one owner. They leave together, and of no frame are some
-                                          * of their words taken and others not */
+                                          * of their words taken and others not. Give them one delay, in the session and in marks */
     uint32_t held_turns;                 /* for how many turns at most the others' words wait beside the session, 1 to 8: see "Words
                                           * held back" below. 0: the session is given them as they come. No machine sees which of
                                           * them another one has */
@@ -406,8 +411,10 @@ static inline void fazgrond_one_number(fazgrond_match *match, uint64_t number) {
  * STALLED: `machine` is heard, and holds this one up, since it gives no words. If it is to be gone for that, it is in
  * `disconnect_in` milliseconds, else that is 0. Told once, until it gives a word.
  * REFUSED: what `machine` sealed was refused, or a word of it was: its program is broken, or it lies. Told at the first of a run.
- * MISSING: `silent_after` has passed since this peer was opened, and `machine` isn't there yet. Told once. It is waited for, until
- * you disconnect it.
+ * MISSING: `silent_after` has passed since this peer was opened, or went on into this epoch, and `machine` isn't there yet. Told
+ * once. It is waited for, until you disconnect it.
+ * STRANGERS: so it is, and `count` hellos have come that aren't of this match: they are sealed by another number, are of another
+ * version, or name this machine's place or one that there isn't. Told once.
  * CUT_OFF: of three machines or more this one hears too few, and so regards none of them as gone. The match is over here in
  * `disconnect_in` milliseconds, as DROPPED tells then, unless it hears more of them again. Told whenever that begins.
  * c/numbers writes the list. */
@@ -415,7 +422,7 @@ enum {
     FAZGROND_SYNCHRONIZING = 1001, FAZGROND_SYNCHRONIZED = 1002, FAZGROND_RUNNING = 1003, FAZGROND_DISCONNECTED = 1004,
     FAZGROND_TIME_SYNC = 1005, FAZGROND_INTERRUPTED = 1006, FAZGROND_RESUMED = 1007, FAZGROND_LEFT = 1101, FAZGROND_DESYNC = 1102,
     FAZGROND_MISMATCH = 1103, FAZGROND_DROPPED = 1104, FAZGROND_RESTARTED = 1105, FAZGROND_STALLED = 1106,
-    FAZGROND_REFUSED = 1107, FAZGROND_MISSING = 1108, FAZGROND_CUT_OFF = 1109
+    FAZGROND_REFUSED = 1107, FAZGROND_MISSING = 1108, FAZGROND_CUT_OFF = 1109, FAZGROND_STRANGERS = 1110
 };
 
 /* What an event doesn't say is 0. */
@@ -450,7 +457,8 @@ typedef struct fazgrond_stats {
 /* Opens a peer beside an open session, which stays the game's: close each of the two when you need it no more. Of the session
  * nothing changes. If the peer's handle is open, its peer is closed once the new one is there; if the new one is refused, the old
  * one stays. One session can get a new peer only while it has no word of another machine's player.
- * FAZGROND_INVALID_MACHINE: too few or too many machines, or `me` is none of them.
+ * FAZGROND_INVALID_MACHINE: too few or too many machines, or `me` is none of them; `words` is not 1 to 4, or the words of an input
+ * are too few or have two owners.
  * FAZGROND_INVALID_PLAYER: the session's players are not those that machines own, or its local ones not those of `me`.
  * FAZGROND_INVALID_REQUEST: the draw is 0; or `me`, `machines` or an owner is over 255, or `held_turns` over 8; or the session has
  * words of another machine's player already, or a player has left it. */
@@ -573,9 +581,10 @@ int32_t fazgrond_peer_is_pressed(fazgrond_peer *peer, fazgrond_session *session,
  *   fazgrond_peer_receive for each datagram that came, then fazgrond_peer_poll;
  *   fazgrond_peer_is_running: until it says 1, give no words, and skip the next three lines;
  *   fazgrond_peer_answer, if fazgrond_peer_ask has somebody who asks to come;
+ *   fazgrond_peer_event until there is none: what waits at a seam is forgotten, and not told again;
  *   fazgrond_peer_go_on: if it is FAZGROND_OK, carry out the requests;
  *   local words, the advance and its requests, as in any match;
- *   fazgrond_peer_event until there is none. For each other machine fazgrond_peer_send, and then fazgrond_peer_send_before. Then
+ *   fazgrond_peer_event again. For each other machine fazgrond_peer_send, and then fazgrond_peer_send_before. Then
  *   fazgrond_peer_send_more until there is nothing. */
 
 /* The owner of a player whom nobody owns now, and whom somebody who comes may get. It is another thing than FAZGROND_NO_PLAYER: such a
@@ -680,8 +689,8 @@ int32_t fazgrond_peer_mark(fazgrond_peer *peer, fazgrond_session *session, uint8
 int32_t fazgrond_peer_ask(fazgrond_peer *peer, fazgrond_ask *ask);
 
 /* Says whether whoever is to come by this player's mark is welcome (not 0) or isn't (0). All machines of the match have to say the same,
- * so go by the ticket alone: test a signature of whoever arranges the match, say. FAZGROND_NOTHING: the match doesn't go on in
- * epochs. */
+ * or it stands, or falls into parts, and no event says why. So go by the ticket alone: test a signature of whoever arranges the match,
+ * say. FAZGROND_NOTHING: the match doesn't go on in epochs. */
 int32_t fazgrond_peer_answer(fazgrond_peer *peer, uint8_t player, uint32_t is_welcome);
 
 /* Goes on in the next epoch, if this one is over. Call it in each turn, after fazgrond_peer_poll and before the session is given words.
