@@ -41,7 +41,7 @@ void online_close(void);
 #else
 static inline bool online_meet(online *self) {
     (void)self;
-    fputs("duel: it was built without libnats-dev, libnice-dev and libsodium-dev: it has no codes\n", stderr);
+    fputs("duel: it has no codes, which need pkg-config, libnats-dev, libnice-dev, libsodium-dev and libgnutls28-dev\n", stderr);
     return false;
 }
 static inline void online_player(const online *self, int number, GGPOPlayer *player) { (void)self, (void)number, (void)player; }

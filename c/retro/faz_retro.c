@@ -164,8 +164,7 @@ static bool take_verdict(void) {
 
 /* Why --rejoin can't be had with what else was said; null if it can. */
 static const char *no_rejoin(void) {
-    return !CAN_LAST ? "the library of this program is too old for --rejoin"
-        : self.host == 0 && self.join == NULL && self.watch == NULL ? "--rejoin is said with --host, --join or --watch"
+    return self.host == 0 && self.join == NULL && self.watch == NULL ? "--rejoin is said with --host, --join or --watch"
         : self.join != NULL && self.port == 0 && !self.by_code ? "--rejoin needs --port N: the same when this machine comes back"
         : self.hold > 0 ? "with --rejoin no word is held back"
         : self.wish.picture != NULL ? "a match with --rejoin has no picture" : NULL;

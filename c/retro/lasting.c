@@ -11,8 +11,6 @@
 #include <stdlib.h>
 #include <string.h>
 
-#if FAZGROND_VERSION >= 0x000101
-
 enum {
     SPARE = 65536, /* so many bytes more than here a state may have */
     SILENT = 500, TELL_EVERY = 1000, OVER_A_SEAM = 2000, /* milliseconds */
@@ -393,27 +391,3 @@ void lasting_close(match *self) {
     self->main->spare = (slot){ 0 };
     self->main->trail = NULL;
 }
-#else
-int32_t lasting_open_peer(match *self, const fazgrond_match *match, const fazgrond_settings *settings) {
-    (void)self, (void)match, (void)settings;
-    return FAZGROND_OTHER_VERSION;
-}
-
-void lasting_begin(match *self) { (void)self; }
-void lasting_return(match *self) { (void)self; }
-void lasting_host(match *self) { (void)self; }
-void lasting_note(match *self, const fazgrond_request *request) { (void)self, (void)request; }
-void lasting_seat_viewer(match *self, uint32_t viewer) { (void)self, (void)viewer; }
-uint32_t lasting_rows_seen(match *self, uint32_t viewer, uint32_t now) { return (void)self, (void)viewer, (void)now, 0; }
-void lasting_bye(match *self) { (void)self; }
-void lasting_turn(match *self, uint32_t now) { (void)self, (void)now; }
-void lasting_tell(match *self, uint32_t now) { (void)self, (void)now; }
-bool lasting_is_out(match *self) { return (void)self, false; }
-void lasting_come(match *self, uint32_t now) { (void)self, (void)now; }
-void lasting_wait(match *self, uint32_t now) { (void)self, (void)now; }
-void lasting_close(match *self) { (void)self; }
-
-void lasting_hear(match *self, const address *from, const uint8_t *bytes, size_t length, uint32_t now) {
-    (void)self, (void)from, (void)bytes, (void)length, (void)now;
-}
-#endif

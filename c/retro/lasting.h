@@ -8,12 +8,6 @@
 
 #include "../rejoin/rejoin.h"
 
-#if FAZGROND_VERSION >= 0x000101
-enum { CAN_LAST = 1 };
-#else
-enum { CAN_LAST = 0 };
-#endif
-
 /* How a part of the match began: at which frame, with which owners and delays. All that this machine was in, or followed on its way in. */
 typedef struct match_part {
     uint32_t base, threshold, owners[FAZGROND_PLAYERS], delays[FAZGROND_PLAYERS];
@@ -29,13 +23,11 @@ typedef struct lasting {
     uint64_t opening_digest;
     match_part *parts;
     size_t part_count;
-#if FAZGROND_VERSION >= 0x000101
     bool is_at_seam;
     fazgrond_epoch epoch;
     faz_hosting hosting;
     faz_comer comer;
     uint32_t followed_at[FAZ_SEATS - FAZGROND_MACHINES]; /* when each viewer was heard on a line of this epoch or one before */
-#endif
 } lasting;
 
 struct match;

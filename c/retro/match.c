@@ -81,8 +81,7 @@ static void send_to(match *self, uint32_t machine, const uint8_t *bytes, size_t 
     net_send(self->meeting->net, &self->meeting->all.machine[self->place_of[machine]], bytes, length);
 }
 
-/* Three machines or more carry for each other where a line breaks. A library before 0.1.1 can't. */
-#if FAZGROND_VERSION >= 0x000101
+/* Three machines or more carry for each other where a line breaks. */
 static int32_t open_peer(match *self, const fazgrond_match *match) {
     return fazgrond_peer_open_carrying(&self->peer, &self->session, match);
 }
@@ -101,14 +100,6 @@ static void send_before(match *self, uint32_t to, uint32_t now) {
     if (fazgrond_peer_send_before(&self->peer, (uint8_t)to, now, bytes, sizeof bytes, &length) == FAZGROND_OK)
         send_to(self, to, bytes, length);
 }
-#else
-static int32_t open_peer(match *self, const fazgrond_match *match) {
-    return fazgrond_peer_open(&self->peer, &self->session, match);
-}
-
-static void send_more(match *self) { (void)self; }
-static void send_before(match *self, uint32_t to, uint32_t now) { (void)self, (void)to, (void)now; }
-#endif
 
 /* The players of this machine are the session's own. */
 static void seat_players(match *self, fazgrond_settings *settings) {
@@ -413,12 +404,10 @@ static void react(match *self, const fazgrond_event *event) {
         match_say(self, "machine %" PRIu32 " is heard again", machine);
         break;
     case FAZGROND_MISSING: miss(self, machine); break;
-#if FAZGROND_VERSION >= 0x000103
     case FAZGROND_STRANGERS:
         match_say(self, "%" PRIu32 " datagrams came that aren't of this match: the others have another version, or play another one",
                   event->count);
         break;
-#endif
     case FAZGROND_CUT_OFF: count_down(self, "too few of the others are heard", 0, event->disconnect_in); break;
     case FAZGROND_RESTARTED:
         match_say(self, self->wish->lasts ? "machine %" PRIu32 " was begun anew"

@@ -41,7 +41,7 @@ void online_close(void);
 #else
 static inline bool online_open(const online_wish *wish) {
     (void)wish;
-    fputs("faz-retro was built without libnats-dev, libnice-dev and libsodium-dev: it has no codes\n", stderr);
+    fputs("faz-retro has no codes, which need pkg-config, libnats-dev, libnice-dev, libsodium-dev and libgnutls28-dev\n", stderr);
     return false;
 }
 static inline online_stage online_turn(void) { return ONLINE_OVER; }

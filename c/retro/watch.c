@@ -116,7 +116,6 @@ static void turn(watching *self, const wish *wish) {
         fputs("the host is silent\n", stderr);
 }
 
-#if FAZGROND_VERSION >= 0x000101
 /* A match into which players come back is followed over its seams, from a state of the host's on. */
 typedef struct following {
     meeting *meeting;
@@ -208,12 +207,6 @@ static outcome follow_match(meeting *meeting, runner *on, const core_state *open
     leave(&self);
     return end(&self.shown, self.goes_on && !is_silent);
 }
-#else
-static outcome follow_match(meeting *meeting, runner *on, const core_state *opening, const wish *wish) {
-    (void)meeting, (void)on, (void)opening, (void)wish;
-    return FAILED;
-}
-#endif
 
 outcome watch_match(meeting *meeting, runner *on, const core_state *opening, const wish *wish) {
     if (wish->lasts)
