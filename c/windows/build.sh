@@ -1,9 +1,9 @@
 #!/bin/sh
-# fazgrond.dll for Windows on x86-64, from the machine code of the static library for Linux: c/windows/build.sh [TOOLS [FOLDER]]
+# The libraries for Windows on x86-64, from the machine code of the static one for Linux: c/windows/build.sh [TOOLS [FOLDER]]
 #
-# TOOLS is `mingw` (x86_64-w64-mingw32-gcc) or `clang` (clang, ld.lld and llvm-dlltool, with no file of Windows' own), else
-# whichever is there. The folder, else c/out/windows, gets fazgrond.dll, its import library fazgrond.dll.a, and fazgrond.def.
-# FAZGROND_C is the library, as in c/Makefile.
+# TOOLS is `mingw` (x86_64-w64-mingw32-gcc) or `clang` (clang, ld.lld, llvm-dlltool and llvm-ar, with no file of Windows' own), else
+# whichever is there. The folder, else c/out/windows, gets fazgrond.dll, its import library fazgrond.dll.a, fazgrond.def, and the static
+# library libfazgrond.a. FAZGROND_C is the library for Linux, as in c/Makefile.
 #
 # The library is linked flat: all its jumps, tables and constants are relative, so its bytes run at any place. The assembler
 # takes these bytes in, puts jumps behind them to what they call, and names what they define.
@@ -25,10 +25,12 @@ cd "$work"
 case $tools in
 mingw)
     kernel32=-lkernel32
+    ar=x86_64-w64-mingw32-ar
     set -- x86_64-w64-mingw32-gcc -fno-tree-loop-distribute-patterns
     ;;
 clang)
     kernel32=kernel32.a
+    ar=llvm-ar
     llvm-dlltool -m i386:x86-64 -d "$here/kernel32.def" -l kernel32.a
     set -- clang --target=x86_64-w64-mingw32 -fuse-ld=lld
     ;;
@@ -60,10 +62,11 @@ outside=$((0x$(awk '$3 == "outside" { print $1 }' names)))
 } > fazgrond.def
 
 "$@" -c image.S -o image.o
-for source in exports heap; do
+for source in exports heap start; do
     "$@" -std=c11 -Wall -Wextra -Werror -O3 -ffreestanding -fno-builtin -fno-stack-protector -funwind-tables -I "$here/.." \
         -c "$here/$source.c" -o "$source.o"
 done
 "$@" -shared -nostdlib -s -Wl,-e,DllMainCRTStartup -Wl,--dynamicbase,--nxcompat,--high-entropy-va,--no-insert-timestamp \
-    -Wl,--out-implib,fazgrond.dll.a -o fazgrond.dll exports.o heap.o image.o fazgrond.def "$kernel32"
-mv fazgrond.dll fazgrond.dll.a fazgrond.def "$out"
+    -Wl,--out-implib,fazgrond.dll.a -o fazgrond.dll exports.o heap.o start.o image.o fazgrond.def "$kernel32"
+"$ar" rcsD libfazgrond.a exports.o heap.o image.o
+mv fazgrond.dll fazgrond.dll.a fazgrond.def libfazgrond.a "$out"
