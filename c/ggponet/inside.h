@@ -11,9 +11,7 @@
 #include "ggponet.h"
 
 #include <fazgrond.h>
-#if FAZGROND_VERSION >= 0x000101
 #include "../rejoin/rejoin.h"
-#endif
 #include <stdio.h>
 #include <stdlib.h>
 #include <string.h>
@@ -147,11 +145,9 @@ struct GGPOSession {
     settled_row rows_before[ROWS_BEFORE]; /* the last settled rows, each at the place of its frame */
     int remembered; /* so many frames of the match have had theirs there, .. */
     int came_from;  /* .. from this one on: that of the state with which this machine came in */
-#if FAZGROND_VERSION >= 0x000101
     fazgrond_epoch epoch;
     faz_hosting hosting;
     faz_comer comer;
-#endif
 
     /* Spectators, and what is watched if this session is one. */
     fazgrond_line line[GGPO_MAX_SPECTATORS];

@@ -97,8 +97,7 @@ static void close_both(GGPOSession *session) {
 /* How a datagram goes out: by the line, or at once. */
 typedef void by_line(GGPOSession *session, int to, const uint8_t *bytes, size_t length);
 
-/* Three machines or more carry for each other where a line breaks. A library before 0.1.1 can't. */
-#if FAZGROND_VERSION >= 0x000101
+/* Three machines or more carry for each other where a line breaks. */
 static int32_t open_peer(GGPOSession *session, const fazgrond_match *match) {
     return fazgrond_peer_open_carrying(&session->peer, &session->rollback, match);
 }
@@ -147,25 +146,6 @@ static GGPOErrorCode open_first_epoch(GGPOSession *session) {
         ggponet_begin_to_come(session);
     return code;
 }
-#else
-static int32_t open_peer(GGPOSession *session, const fazgrond_match *match) {
-    return fazgrond_peer_open(&session->peer, &session->rollback, match);
-}
-
-static void send_more(GGPOSession *session, by_line *send) {
-    (void)session;
-    (void)send;
-}
-
-static void send_before(GGPOSession *session, int to) {
-    (void)session;
-    (void)to;
-}
-
-static GGPOErrorCode open_first_epoch(GGPOSession *session) {
-    return ggponet_refuse(session, GGPO_ERRORCODE_UNSUPPORTED, "the library is too old for players who come back");
-}
-#endif
 
 bool ggponet_comes_later(const GGPOSession *session) {
     return session->player[session->machine[session->place].handle - 1].is_vacant;

@@ -51,7 +51,6 @@ int ggponet_machine_at(const GGPOSession *session, int place) {
     return MACHINES;
 }
 
-#if FAZGROND_VERSION >= 0x000101
 /* The number of the line between two machines, by their places. */
 static uint64_t line_number(const GGPOSession *session, int one, int other) {
     int places[2] = { one < other ? one : other, one < other ? other : one };
@@ -327,32 +326,3 @@ void ggponet_close_seats(GGPOSession *session) {
     faz_hosting_close(&session->hosting);
     faz_comer_close(&session->comer);
 }
-#else
-void ggponet_close_seats(GGPOSession *session) { (void)session; }
-
-void ggponet_host_from(GGPOSession *session, const saved *state) {
-    (void)session;
-    (void)state;
-}
-
-GGPOErrorCode ggponet_go_on(GGPOSession *session) {
-    (void)session;
-    return GGPO_OK;
-}
-
-void ggponet_host_turn(GGPOSession *session) { (void)session; }
-
-void ggponet_hear_who_comes(GGPOSession *session, int place, const uint8_t *bytes, size_t length) {
-    (void)session;
-    (void)place;
-    (void)bytes;
-    (void)length;
-}
-
-void ggponet_ask_to_come(GGPOSession *session) { (void)session; }
-
-GGPOErrorCode ggponet_come(GGPOSession *session) {
-    (void)session;
-    return GGPO_OK;
-}
-#endif

@@ -1,8 +1,6 @@
 /* Who comes into a match. */
 #include "rejoin.h"
 
-#if FAZGROND_VERSION >= 0x000101
-
 #include <stdlib.h>
 #include <string.h>
 
@@ -253,4 +251,3 @@ void faz_comer_close(faz_comer *self) {
     self->state = NULL;
     self->host = FAZGROND_NO_MACHINE;
 }
-#endif

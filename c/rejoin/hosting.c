@@ -1,8 +1,6 @@
 /* A machine of a match, at which others come in. */
 #include "rejoin.h"
 
-#if FAZGROND_VERSION >= 0x000101
-
 #include <string.h>
 
 enum {
@@ -286,4 +284,3 @@ void faz_hosting_close(faz_hosting *self) {
     fazgrond_giver_close(&self->ready);
     self->has_begun = false;
 }
-#endif

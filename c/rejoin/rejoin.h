@@ -12,8 +12,6 @@
 #include <fazgrond.h>
 #include <stdbool.h>
 
-#if FAZGROND_VERSION >= 0x000101
-
 #ifdef __cplusplus
 extern "C" {
 #endif
@@ -153,6 +151,5 @@ uint64_t faz_draw(uint64_t *random);
 
 #ifdef __cplusplus
 }
-#endif
 #endif
 #endif

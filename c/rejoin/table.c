@@ -1,8 +1,6 @@
 /* How an epoch began, as bytes, and what both ends of a line make of it. */
 #include "rejoin.h"
 
-#if FAZGROND_VERSION >= 0x000101
-
 #include <string.h>
 
 enum { VERSION = 1, LINE_MACHINES = FAZGROND_MACHINES, SILENT_AFTER = 1000 };
@@ -81,4 +79,3 @@ fazgrond_line_settings faz_line_in(const fazgrond_epoch *epoch, uint64_t number,
         settings.owners[player] = epoch->owners[player] == FAZGROND_NOBODY ? 0 : epoch->owners[player];
     return settings;
 }
-#endif

@@ -177,7 +177,6 @@ void faz_cast_epoch(faz_cast *self, uint64_t base) {
     faz_cast_from(self, base);
 }
 
-#if FAZGROND_VERSION >= 0x000101
 int32_t faz_cast_go_on(faz_cast *self, fazgrond_session *session, fazgrond_peer *peer, uint32_t *frames) {
     fazgrond_row rows[PENDING];
     fazgrond_epoch epoch;
@@ -192,7 +191,6 @@ int32_t faz_cast_go_on(faz_cast *self, fazgrond_session *session, fazgrond_peer 
     faz_cast_epoch(self, epoch.base);
     return code;
 }
-#endif
 
 void faz_cast_end(faz_cast *self, const char *reason) {
     push_opening(self);

@@ -54,13 +54,11 @@ void faz_cast_from(faz_cast *cast, uint64_t frame);
  * faz_cast_row first. */
 void faz_cast_epoch(faz_cast *cast, uint64_t base);
 
-#if FAZGROND_VERSION >= 0x000101
 /* In the place of fazgrond_peer_go_on, whose answer it gives: publishes the rows of an epoch that is over, and goes on with the
  * next. Call fazgrond_synchronize_input before it if fazgrond_has_news, and carry out its requests; and call faz_cast_turn right
  * after it has answered FAZGROND_NOTHING, before the session is given words, and at no other place: rows that are settled later
  * may be past the end. */
 int32_t faz_cast_go_on(faz_cast *cast, fazgrond_session *session, fazgrond_peer *peer, uint32_t *frames);
-#endif
 
 /* The match has ended after the rows that were given. */
 void faz_cast_end(faz_cast *cast, const char *reason);
