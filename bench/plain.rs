@@ -238,9 +238,12 @@ fn play_all(text: &str, out: &mut Vec<u8>) -> Option<bool> {
 fn main() -> io::Result<ExitCode> {
     let (mut text, mut out) = (String::new(), Vec::new());
     io::stdin().read_to_string(&mut text)?;
-    let Some(refused) = play_all(&text, &mut out) else {
-        eprintln!("plain: unreadable");
-        return Ok(ExitCode::from(2));
+    let refused = match play_all(&text, &mut out) {
+        Some(refused) => refused,
+        None => {
+            eprintln!("plain: unreadable");
+            return Ok(ExitCode::from(2));
+        }
     };
     io::stdout().write_all(&out)?;
     Ok(ExitCode::from(u8::from(refused)))

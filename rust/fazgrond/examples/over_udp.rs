@@ -67,7 +67,10 @@ fn play(session: &mut Session<Digest>, peer: &mut Peer, me: u8, wait: u32, now: 
 
 fn main() -> Result<(), Box<dyn Error>> {
     let words: Vec<String> = env::args().skip(1).collect();
-    let [me, port, address, other_port] = &words[..] else { return Err("usage: over_udp ME PORT ADDRESS PORT".into()) };
+    let (me, port, address, other_port) = match &words[..] {
+        [me, port, address, other_port] => (me, port, address, other_port),
+        _ => return Err("usage: over_udp ME PORT ADDRESS PORT".into()),
+    };
     let me = me.parse().ok().filter(|me| *me < 2).ok_or("ME is 0 or 1")?;
     let line = UdpSocket::bind(("0.0.0.0", port.parse()?))?;
     line.connect((address.as_str(), other_port.parse()?))?;

@@ -235,7 +235,7 @@ pub const PIECE_TAKEN: u32 = 2;
 pub const STATE_WHOLE: u32 = 3;
 pub const STATE_WRONG: u32 = 4;
 
-unsafe extern "C" {
+extern "C" {
     pub fn fazgrond_version() -> u32;
     pub fn fazgrond_text(code: i32, out: *mut u8, room: usize) -> usize;
     pub fn fazgrond_open(session: *mut Session, settings: *const Settings) -> i32;

@@ -165,7 +165,10 @@ impl<G: Game> Session<G> {
                 other => unreachable!("a guess asks for {other:?}"),
             }
         }
-        let Some(number) = answer else { return Ok(None) };
+        let number = match answer {
+            Some(number) => number,
+            None => return Ok(None),
+        };
         let ticket = self.jobs.add(number, slots);
         let start = self.slots[start].clone().expect("a slot that a job loads is taken");
         Ok(Some(Job { ticket, start, rows }))

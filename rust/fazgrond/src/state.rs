@@ -206,7 +206,7 @@ impl Taker {
     ///
     /// If there can't be such a machine.
     pub fn take_of(&mut self, machine: Option<u8>) {
-        assert!(machine.is_none_or(|machine| usize::from(machine) < MACHINES), "there are {MACHINES} machines");
+        assert!(machine.map_or(true, |machine| usize::from(machine) < MACHINES), "there are {MACHINES} machines");
         let answer = said(unsafe { raw::fazgrond_taker_take_of(self.raw(), machine.unwrap_or(raw::NO_MACHINE)) });
         debug_assert!(answer.is_ok(), "there is such a machine");
     }
