@@ -55,9 +55,10 @@ struct Way {
 
 impl Way {
     fn send(&mut self, random: &mut Random, turn: u32, sent: Option<Datagram>) {
-        let Some(sent) = sent.filter(|_| !random.one_in(5)) else { return };
-        self.under_way.insert((turn + 1 + random.below(5), self.count), sent);
-        self.count += 1;
+        if let Some(sent) = sent.filter(|_| !random.one_in(5)) {
+            self.under_way.insert((turn + 1 + random.below(5), self.count), sent);
+            self.count += 1;
+        }
     }
 
     fn come(&mut self, turn: u32) -> impl Iterator<Item = Datagram> {
@@ -389,9 +390,11 @@ fn a_machine_that_stops_is_gone() {
         }
     }
     let last = 19 * TURN; // when machine 1 heard the other one, which answered what it had sent in the turn before
-    let [(first, 1, Event::Interrupted { machine: 0, .. }), (second, 1, Event::Left { machine: 0 }), ..] = told[..]
-    else {
-        panic!("{told:?}");
+    let (first, second) = match told[..] {
+        [(first, 1, Event::Interrupted { machine: 0, .. }), (second, 1, Event::Left { machine: 0 }), ..] => {
+            (first, second)
+        }
+        _ => panic!("{told:?}"),
     };
     assert!((750..800).contains(&(first - last)) && (4900..5200).contains(&(second - last)), "{told:?}");
 }

@@ -163,14 +163,21 @@ struct Aside {
 impl Aside {
     /// The requests have to be those of the job that the model wants.
     fn new(number: u32, requests: Vec<Request>, want: &model::Job, game: &Slots, of_session: Job<State>) -> Aside {
-        let Request::JobLoad(start) = requests[0] else { panic!("a job begins with {:?}", requests[0]) };
+        let start = match requests[0] {
+            Request::JobLoad(start) => start,
+            ref other => panic!("a job begins with {other:?}"),
+        };
         assert_eq!(game.state(start).rows, want.start);
         assert_eq!(requests.len(), 1 + 2 * want.rows.len());
         let mut slots = Vec::new();
         for (pair, row) in requests[1..].chunks(2).zip(&want.rows) {
-            let [Request::JobStep(step), Request::JobSave(slot)] = pair else { panic!("a job goes on with {pair:?}") };
-            assert_eq!(step.cells().collect::<Vec<_>>(), *row);
-            slots.push(*slot);
+            match pair {
+                [Request::JobStep(step), Request::JobSave(slot)] => {
+                    assert_eq!(step.cells().collect::<Vec<_>>(), *row);
+                    slots.push(*slot);
+                }
+                _ => panic!("a job goes on with {pair:?}"),
+            }
         }
         assert_eq!(*of_session.start(), State::of(&want.start));
         assert!(of_session.rows().iter().zip(&want.rows).all(|(row, want)| row.cells().eq(want.iter().copied())));
@@ -372,7 +379,7 @@ impl Script {
                 assert_eq!(of_session.err(), Some(Error::NoMemory));
             }
             Ok(Some(want)) => {
-                let Ok(Some(number)) = answer else { panic!("a guess that gives a job is answered {answer:?}") };
+                let number = answer.expect("the guess is accepted").expect("it gives a job");
                 self.model.add_job(number, want.clone());
                 let of_session = of_session.expect("it is accepted").expect("it gives a job");
                 let job = Aside::new(number, requests, &want, &self.game, of_session);
@@ -395,12 +402,13 @@ impl Script {
 
     /// Carries out some of a job, and grafts it if it was all.
     fn go_on(&mut self) {
-        let Some(at) = self.some_job() else { return };
-        for _ in 0..self.random.below(20) {
-            self.jobs[at].go_on(&mut self.game);
-        }
-        if self.jobs[at].requests.is_empty() {
-            self.graft(at);
+        if let Some(at) = self.some_job() {
+            for _ in 0..self.random.below(20) {
+                self.jobs[at].go_on(&mut self.game);
+            }
+            if self.jobs[at].requests.is_empty() {
+                self.graft(at);
+            }
         }
     }
 
@@ -411,10 +419,10 @@ impl Script {
             job.go_on(&mut self.game);
         }
         for slot in job.slots {
-            let Place::OfJob(Some(state)) = mem::replace(&mut self.game.slots[slot], Place::Free) else {
-                panic!("a state of a job was not kept");
-            };
-            self.game.slots[slot] = Place::Taken(state);
+            match mem::replace(&mut self.game.slots[slot], Place::Free) {
+                Place::OfJob(Some(state)) => self.game.slots[slot] = Place::Taken(state),
+                _ => panic!("a state of a job was not kept"),
+            }
         }
         let run = move || job.of_session.run(&mut State::default());
         let done = if self.random.one_in(100) { thread::spawn(run).join().expect("the job was run") } else { run() };
@@ -425,8 +433,10 @@ impl Script {
     }
 
     fn forget(&mut self) {
-        let Some(at) = self.some_job() else { return };
-        let job = self.take_job(at);
+        let job = match self.some_job() {
+            Some(at) => self.take_job(at),
+            None => return,
+        };
         for slot in job.slots {
             self.game.slots[slot] = Place::GivenUp;
         }

@@ -72,15 +72,17 @@ impl Paths {
     }
 
     fn is_saved(&self, rows: &[Row]) -> bool {
-        self.node(rows).is_some_and(|at| self.0[at].saved.is_some())
+        self.node(rows).map_or(false, |at| self.0[at].saved.is_some())
     }
 
     /// The length of the longest one that begins these rows, and its node.
     fn longest(&self, rows: &[Row]) -> (usize, usize) {
         let (mut at, mut longest) = (0, (0, 0));
         for (length, row) in rows.iter().enumerate() {
-            let Some(child) = self.child(at, row) else { break };
-            at = child;
+            at = match self.child(at, row) {
+                Some(child) => child,
+                None => break,
+            };
             if self.0[at].saved.is_some() {
                 longest = (length + 1, at);
             }
