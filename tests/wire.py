@@ -12,7 +12,7 @@ import re
 import sys
 from pathlib import Path
 
-MAGIC = b"FZG3"
+MAGIC = b"FZG4"
 HELLO, PLAY, BYE, MAP, CARRIED, PIECE, ASK = 0, 1, 2, 3, 4, 5, 6
 VIEWER = 255
 BLOCK = 64  # of SHA-256, in bytes
@@ -86,9 +86,10 @@ def mark(players=(), ticket=0, delays=None, threshold=0):
     return newcomer + masked({player: bytes([delay]) for player, delay in (delays or {}).items()}) + bytes([threshold])
 
 
-def play(number, sender, counts, offers=None, words=(), clocks=None, settled=None, gone=(), marks=None):
-    """A play. Counts, offers and marks are by player; an offer is a first frame and how many words, a mark a frame and its bytes."""
-    rest = optional(clocks and b"".join(map(short, clocks))) + mask(gone)
+def play(number, sender, sent, counts, offers=None, words=(), clocks=None, settled=None, gone=(), marks=None):
+    """A play, before which so many packets were sent. Counts, offers and marks are by player; an offer is a first frame and how many
+    words, a mark a frame and its bytes."""
+    rest = short(sent) + optional(clocks and b"".join(map(short, clocks))) + mask(gone)
     rest += masked({player: short(count) for player, count in counts.items() if count})
     rest += optional(settled and short(settled[0]) + fixed(settled[1], 8))
     rest += masked({player: short(first) + bytes([count]) for player, (first, count) in (offers or {}).items()})
@@ -185,23 +186,23 @@ def of_line(text):
 
 def examples():
     """Each packet of the page by its name, with the number and sealed."""
-    first_clocks = (130, 120, 118, clock(DRAWS[1], 2016), clock(DRAWS[0], 1984), 16)
-    turn = play(NUMBER, 1, {0: 119, 1: 123}, {1: (117, 6)}, [0, 0, 5, 5, 5, 7], first_clocks, (110, 0xFEDCBA9876543210))
+    first_clocks = (120, 118, clock(DRAWS[1], 2016), clock(DRAWS[0], 1984), 16)
+    turn = play(NUMBER, 1, 130, {0: 119, 1: 123}, {1: (117, 6)}, [0, 0, 5, 5, 5, 7], first_clocks, (110, 0xFEDCBA9876543210))
     third_bye = sealed(bye(THIRD_NUMBER, 2), THIRD_DRAW, DRAWS[0])
-    line_clocks = (640, 603, 603, clock(HOST, 10016), clock(GUEST, 9984), 8)
+    line_clocks = (603, 603, clock(HOST, 10016), clock(GUEST, 9984), 8)
     marks = {1: (121, mark([2], 0x3132333435363738, {1: 3}))}
     return {
         "hello": of_match(hello(NUMBER, 1, MATCH, DRAWS[1], DRAWS[0], 5000)),
         "first hello": of_match(hello(NUMBER, 1, MATCH, DRAWS[1], 0, 5000)),
         "turn": of_match(turn),
-        "held": of_match(play(NUMBER, 1, {0: 19_999, 1: 20_003}, {1: (19_997, 6)}, [5] * 6)),
-        "marked": of_match(play(NUMBER, 1, {0: 119, 1: 123}, {1: (117, 6)}, [0, 0, 5, 5, 5, 7], marks=marks)),
+        "held": of_match(play(NUMBER, 1, 20_010, {0: 19_999, 1: 20_003}, {1: (19_997, 6)}, [5] * 6)),
+        "marked": of_match(play(NUMBER, 1, 130, {0: 119, 1: 123}, {1: (117, 6)}, [0, 0, 5, 5, 5, 7], marks=marks)),
         "bye": of_match(bye(NUMBER, 1)),
         "map": of_match(line_map(NUMBER, 1, [([0, 1], 2), ([0, 1, 2], 2), ([1, 2], 2)])),
         "carried": of_match(carried(NUMBER, 1, [(0, 6, third_bye)])),
         "viewer's hello": of_line(hello(LINE, VIEWER, MATCH, GUEST, HOST, 3000)),
-        "rows": of_line(play(LINE, 0, {0: 603, 1: 601}, {0: (600, 3), 1: (0, 1)}, [5, 5, 9, 9], line_clocks)),
-        "viewer's answer": of_line(play(LINE, VIEWER, {0: 603, 1: 603})),
+        "rows": of_line(play(LINE, 0, 640, {0: 603, 1: 601}, {0: (600, 3), 1: (0, 1)}, [5, 5, 9, 9], line_clocks)),
+        "viewer's answer": of_line(play(LINE, VIEWER, 641, {0: 603, 1: 603})),
         "first ask": of_match(ask(NUMBER, 1, 2, 0, None, [0])),
         "piece": of_match(piece(NUMBER, 0, 2, 0, OPTIONS, 0)),
         "ask": of_match(ask(NUMBER, 1, 1, 0, SAVED, [2, 0])),
@@ -219,7 +220,7 @@ def greatest():
     words = [most - at % 2 for at in range(140)]
     offers = {player: (4_000_000_000, 21 if player == 7 else 17) for player in players}
     marks = dict.fromkeys(players, (4_000_000_016, mark(players, (1 << 64) - 1, dict.fromkeys(players, 255), 255)))
-    return play(NUMBER, 1, dict.fromkeys(players, most), offers, words, [most] * 6, (most, (1 << 64) - 1), players, marks)
+    return play(NUMBER, 1, most, dict.fromkeys(players, most), offers, words, [most] * 5, (most, (1 << 64) - 1), players, marks)
 
 
 # ---- the page
@@ -344,7 +345,7 @@ def sayings(made):
     """What the page has to say of sizes, and of the numbers behind the examples."""
     held = len(made["held"][1])
     return [
-        f"`{hexed(MAGIC)}`: the letters `FZG`, and the version, `3`",
+        f"`{hexed(MAGIC)}`: the letters `FZG`, and the version, `4`",
         *(f"0x{number:016x}" for number in [NUMBER, *DRAWS, MATCH["digest"], THIRD_NUMBER, THIRD_DRAW, LINE, HOST, GUEST]),
         f"A hello has {len(made['hello'][1])} bytes",
         f"It has {len(made['turn'][1])} bytes:",

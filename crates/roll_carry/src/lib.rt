@@ -15,7 +15,7 @@ mod writing;
 
 pub use carrier::Carrier;
 pub use datagram::{Hearing, Parcel};
-pub use laws::{one_text, ways_are_found};
+pub use laws::{one_text, plain_numbers, ways_are_found};
 pub use limits::{AREA_LIMIT, CARRIED, CARRY_AFTER, HEAD, MAP, STEP_LIMIT, TAIL_LEAST, TAIL_LIMIT};
 pub use map::LineMap;
 pub use reading::{first_parcel, lone_datagram, read_map, read_parcels, tail_of};

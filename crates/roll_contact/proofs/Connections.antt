@@ -1,19 +1,17 @@
 -- The laws of connections.
-use Rattle.std.proofs.Common.{◌≡◌, ◌≢◌, ◌∙◌, ◌≤◌, ◌<◌, ◌^◌, ◌++◌, ℕ, List, [], ◌∷◌, length, take, drop, refl, sym, ap, subst, arith, Bool, true, false, Option, Some, None}
+use Rattle.std.proofs.Common.{◌≡◌, ◌≢◌, ◌∙◌, ◌≤◌, ◌<◌, ◌^◌, ◌++◌, ℕ, List, [], ◌∷◌, length, take, drop, refl, sym, ap, subst, Bool, true, false, Option, Some, None}
 use Rattle.std.specs.Int.{w64, from_be_bytes, to_be_bytes}
-use Rattle.std.specs.Prelude.{◌==◌, ◌&&◌, not, All, IsSome, replicate, ◌-◌}
-use Rattle.std.specs.Str.{bytes_eq}
-use Rattle.std.proofs.lemmas.Bool.{and_parts, and_right, eqb-true}
+use Rattle.std.specs.Prelude.{◌==◌, not, All, IsSome, replicate}
+use Rattle.std.proofs.lemmas.Bool.{and_right, eqb-true}
 use Rattle.std.proofs.lemmas.List.{drop_at, take_at}
 use Rattle.std.proofs.lemmas.List.Elements.{All-head, All-tail}
 use Rattle.std.proofs.lemmas.Nat.{from_be_bytes-to_be_bytes_8}
-use Rattle.std.proofs.lemmas.Slice.Eq.{bytes_eq-Decides}
 use Rattle.roll_wire.specs.declared.datagram.Clocks.{Clocks}
 use Rattle.roll_wire.specs.declared.datagram.Hello.{Hello}
-use Rattle.roll_contact.specs.Contacts.{after_hello, after_play, are_newer, greeted, is_before, is_fresh, is_playing, is_silent, meeting, met, other_opening, refused, same_opening, told}
-use Rattle.roll_contact.specs.Keys.{block_of, key_bytes}
+use Rattle.roll_contact.specs.Contacts.{after_hello, after_play, are_newer, confirming, greeted, heard, is_before, is_fresh, is_playing, meeting, met, passing, with_clocks}
+use Rattle.roll_contact.specs.Keys.{block_of}
 use Rattle.roll_contact.specs.Laws.{after_plays, Coming, CopiesEndNoSilence, IsKey, IsOld, KeysDiffer, OnlyAnEchoIsBelieved, RefusalsEndNoSilence}
-use Rattle.roll_contact.specs.Seals.{HasNumber, field, named, sealed, tag, unsealed, with_field}
+use Rattle.roll_contact.specs.Seals.{HasNumber, field, named, sealed, tag, unsealed}
 use Rattle.roll_contact.specs.declared.contact.Contact.{Contact}
 use Rattle.roll_contact.specs.declared.contact.Opening.{Opening}
 use Rattle.roll_contact.specs.declared.contact.Stage.{Stage}
@@ -147,40 +145,61 @@ record WaitsAs (one other : Contact) : Type 0 where
 not_fresh : (clock newest now : ℕ) → is_before newest clock ≡ false → is_fresh clock newest now ≡ false
 not_fresh clock newest now e = rw e (and_right (not (clock == 0)) false refl)
 
-old_clocks : (play : Coming) (contact : Contact) → contact.confirmed ≡ true → IsOld contact.answered play
-    → WaitsAs (after_play play.clocks play.frame play.now contact) contact
-unfolding after_play
-old_clocks play contact sure old = go play.clocks refl
-  where
-    new : (clocks : Clocks) → play.clocks ≡ Some clocks → (b : Bool) → are_newer contact.their_clocks clocks ≡ b
-        → WaitsAs (after_play (Some clocks) play.frame play.now contact) contact
-    new clocks e true f =
-        let stale = not_fresh clocks.heard_clock contact.answered play.now (old clocks e) in
-        record {
-          stage = rw (sure, f, stale) refl;
-          sure = rw (sure, f, stale) refl;
-          answered = rw (sure, f, stale) refl;
-          at = rw (sure, f, stale) refl;
-          unanswered = rw (sure, f, stale) refl;
-        }
-    new clocks e false f = record {
-      stage = rw (sure, f) refl;
-      sure = rw (sure, f) refl;
-      answered = rw (sure, f) refl;
-      at = rw (sure, f) refl;
-      unanswered = rw (sure, f) refl;
-    }
+module _ (number frame now : ℕ) (contact : Contact) (sure : contact.confirmed ≡ true) where
+  confirmed_waits : WaitsAs (confirming now (heard now contact)) contact
+  confirmed_waits = record {
+    stage = rw sure refl;
+    sure = rw sure refl;
+    answered = rw sure refl;
+    at = rw sure refl;
+    unanswered = rw sure refl;
+  }
 
-    go : (clocks : Option Clocks) → play.clocks ≡ clocks
-        → WaitsAs (after_play play.clocks play.frame play.now contact) contact
-    go None e = rw e (record {
-      stage = rw sure refl;
-      sure = rw sure refl;
-      answered = rw sure refl;
-      at = rw sure refl;
-      unanswered = rw sure refl;
-    })
-    go (Some clocks) e = rw e (new clocks e (are_newer contact.their_clocks clocks) refl)
+  stale_clocks : (clocks : Clocks) → is_before contact.answered clocks.heard_clock ≡ false
+      → WaitsAs (with_clocks number (Some clocks) frame now contact) contact
+  stale_clocks clocks old = go (are_newer contact.their_clocks number) refl
+    where
+      stale : is_fresh clocks.heard_clock contact.answered now ≡ false
+      stale = not_fresh clocks.heard_clock contact.answered now old
+
+      go : (b : Bool) → are_newer contact.their_clocks number ≡ b
+          → WaitsAs (with_clocks number (Some clocks) frame now contact) contact
+      go true e = record {
+        stage = rw (e, stale) refl;
+        sure = rw (e, stale) sure;
+        answered = rw (e, stale) refl;
+        at = rw (e, stale) refl;
+        unanswered = rw (e, stale) refl;
+      }
+      go false e = record {
+        stage = rw e refl;
+        sure = rw e sure;
+        answered = rw e refl;
+        at = rw e refl;
+        unanswered = rw e refl;
+      }
+
+  kept_clocks : (clocks : Option Clocks)
+      → ((known : Clocks) → clocks ≡ Some known → is_before contact.answered known.heard_clock ≡ false)
+      → WaitsAs (with_clocks number clocks frame now contact) contact
+  kept_clocks None old = record { stage = refl; sure = sure; answered = refl; at = refl; unanswered = refl }
+  kept_clocks (Some clocks) old = stale_clocks clocks (old clocks refl)
+
+old_clocks : (play : Coming) (contact : Contact) → contact.confirmed ≡ true → IsOld contact.answered play
+    → WaitsAs (after_play play.number play.clocks play.frame play.now contact) contact
+unfolding after_play
+old_clocks play contact sure old =
+    let first = confirmed_waits play.number play.frame play.now contact sure in
+    let last = kept_clocks play.number play.frame play.now
+    (passing play.number (confirming play.now (heard play.now contact))) first.sure play.clocks
+    (λ known e. subst (λ (n : ℕ). is_before n known.heard_clock ≡ false) (sym first.answered) (old known e)) in
+    record {
+      stage = last.stage ∙ first.stage;
+      sure = last.sure;
+      answered = last.answered ∙ first.answered;
+      at = last.at ∙ first.at;
+      unanswered = last.unanswered ∙ first.unanswered;
+    }
 
 still : (plays : List Coming) (contact : Contact) → contact.confirmed ≡ true → All (IsOld contact.answered) plays
     → WaitsAs (after_plays plays contact) contact
@@ -188,7 +207,7 @@ unfolding after_plays
 still [] contact sure old = record { stage = refl; sure = sure; answered = refl; at = refl; unanswered = refl }
 still (play ∷ plays) contact sure old =
     let first = old_clocks play contact sure (All-head (IsOld contact.answered) play plays old) in
-    let rest = still plays (after_play play.clocks play.frame play.now contact) first.sure
+    let rest = still plays (after_play play.number play.clocks play.frame play.now contact) first.sure
     (subst (λ (n : ℕ). All (IsOld n) plays) (sym first.answered) (All-tail (IsOld contact.answered) play plays old)) in
     record {
       stage = rest.stage ∙ first.stage;

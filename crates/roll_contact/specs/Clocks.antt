@@ -1,5 +1,5 @@
 -- Moments: numbers of 32 bits that begin anew after 2^32; and counts that don't.
-use Rattle.std.specs.Prelude.{ℕ, ◌+◌, ◌-◌, ◌%◌, ◌^◌, min, nat_lt, Option, Some, None, if◌then◌else◌}
+use Rattle.std.specs.Prelude.{ℕ, ◌+◌, ◌-◌, ◌%◌, ◌^◌, min, nat_lt, Some, None, if◌then◌else◌}
 use Rattle.std.specs.Option.{option_map_or}
 use Rattle.roll_contact.specs.declared.clock.Clock.{Clock}
 use Rattle.roll_contact.specs.declared.clock.TheConstants.{AHEAD}

@@ -1,5 +1,5 @@
 -- What an end knows of another, and how that changes.
-use Rattle.std.specs.Prelude.{ℕ, List, slice_index_or, ◌-◌, ◌+◌, ◌%◌, ◌/◌, ◌^◌, max, min, ℤ, pos, neg_ℤ, ◌+ℤ◌, ◌-ℤ◌, unsigned_abs, Bool, true, false, not, ◌&&◌, ◌||◌, ◌==◌, nat_le, nat_lt, Option, Some, None, if◌then◌else◌}
+use Rattle.std.specs.Prelude.{ℕ, List, slice_index_or, ◌-◌, ◌%◌, ◌/◌, ◌^◌, max, min, ℤ, pos, neg_ℤ, ◌+ℤ◌, ◌-ℤ◌, unsigned_abs, Bool, true, false, not, ◌&&◌, ◌||◌, ◌==◌, nat_le, nat_lt, Option, Some, None, if◌then◌else◌}
 use Rattle.std.specs.Int.{int_max, int_min}
 use Rattle.std.specs.Option.{option_map_or, option_or}
 use Rattle.roll_wire.specs.declared.datagram.Clocks.{Clocks}
@@ -39,9 +39,9 @@ opened_contact = record {
   round_trip = None;
   sent = 0;
   received = 0;
+  after = 0;
   expected = 0;
   refused = 0;
-  is_refusing = false;
 }
 
 -- what is known of a machine
@@ -71,7 +71,7 @@ heard now contact = record contact {
 
 -- one that it sealed was refused
 abbrev pub refused : Contact → Contact
-refused contact = record contact { refused = one_more contact.refused; is_refusing = true }
+refused contact = record contact { refused = one_more contact.refused }
 
 -- ---- hellos
 
@@ -175,16 +175,16 @@ measured clocks now =
     if not (clocks.heard_clock == 0) && nat_le (trip_of clocks now) ROUND_TRIP_LIMIT
     then Some (trip_of clocks now) else None
 
--- whether clocks are later than the last that were heard
-abbrev pub are_newer : Option TheirClocks → Clocks → Bool
-are_newer None clocks = true
-are_newer (Some theirs) clocks = nat_lt theirs.number clocks.number
+-- whether the clocks of a play are later than the last that were heard
+abbrev pub are_newer : Option TheirClocks → (number : ℕ) → Bool
+are_newer None number = true
+are_newer (Some theirs) number = nat_lt theirs.number number
 
--- after its clocks were heard, by an end at a frame
-abbrev pub after_clocks : Clocks → ℕ → ℕ → Contact → Contact
-after_clocks clocks frame now contact = record (told clocks.heard_clock now contact) {
+-- after the clocks of a play were heard, by an end at a frame
+abbrev pub after_clocks : (number : ℕ) → Clocks → ℕ → ℕ → Contact → Contact
+after_clocks number clocks frame now contact = record (told clocks.heard_clock now contact) {
   their_clocks = Some (record {
-    number = clocks.number;
+    number = number;
     frame = clocks.frame;
     clock = clocks.clock;
     heard_at = now;
@@ -192,14 +192,14 @@ after_clocks clocks frame now contact = record (told clocks.heard_clock now cont
   behind = behind_of clocks.frame frame;
   their_behind = behind_of clocks.heard_frame clocks.frame;
   round_trip = option_or (measured clocks now) contact.round_trip;
-  expected = one_more clocks.number;
+  expected = one_more number;
 }
 
 -- with these clocks, if there are any, and they are new
-abbrev pub with_clocks : Option Clocks → ℕ → ℕ → Contact → Contact
-with_clocks None frame now contact = contact
-with_clocks (Some clocks) frame now contact =
-    if are_newer contact.their_clocks clocks then after_clocks clocks frame now contact else contact
+abbrev pub with_clocks : (number : ℕ) → Option Clocks → ℕ → ℕ → Contact → Contact
+with_clocks number None frame now contact = contact
+with_clocks number (Some clocks) frame now contact =
+    if are_newer contact.their_clocks number then after_clocks number clocks frame now contact else contact
 
 -- a play was heard: from the first one on its silence counts
 abbrev pub confirming : ℕ → Contact → Contact
@@ -207,16 +207,24 @@ confirming now contact =
     if contact.confirmed then contact
     else record contact { confirmed = true; answered_at = now; unanswered = 0 }
 
+-- whether a play is newer than all that were heard
+abbrev pub is_newer : Contact → (number : ℕ) → Bool
+is_newer contact number = nat_le contact.after number
+
+-- then others are only newer if they come after it
+abbrev pub passing : (number : ℕ) → Contact → Contact
+passing number contact = record contact {
+  after = if is_newer contact number then one_more number else contact.after;
+}
+
 -- after a play
-unfoldable pub after_play : Option Clocks → ℕ → ℕ → Contact → Contact
-after_play clocks frame now contact =
-    with_clocks clocks frame now
-    (record (confirming now (heard now contact)) { is_refusing = false })
+unfoldable pub after_play : (number : ℕ) → Option Clocks → ℕ → ℕ → Contact → Contact
+after_play number clocks frame now contact =
+    with_clocks number clocks frame now (passing number (confirming now (heard now contact)))
 
 -- what an end at a frame tells it. A clock is 0 only if none was heard
 abbrev pub clocks_for : Contact → ℕ → ℕ → Clocks
 clocks_for contact frame now = record {
-  number = contact.sent;
   frame = frame;
   heard_frame = frame_after frame contact.behind;
   clock = max now 1;

@@ -1,14 +1,16 @@
 -- Laws of connections.
-use Rattle.std.specs.Prelude.{◌≡◌, ◌≢◌, ◌≤◌, ◌<◌, ◌^◌, ℕ, List, [], ◌∷◌, length, Bool, true, false, Option, Some, None, All, IsSome}
+use Rattle.std.specs.Prelude.{◌≡◌, ◌≢◌, ◌≤◌, ◌<◌, ◌^◌, ℕ, List, [], ◌∷◌, length, true, false, Option, Some, None, All, IsSome, nat_lt, ◌-◌, pos}
 use Rattle.roll_wire.specs.declared.datagram.Clocks.{Clocks}
 use Rattle.roll_wire.specs.declared.datagram.Hello.{Hello}
-use Rattle.roll_wire.specs.declared.limits.TheConstants.{DATAGRAM_LIMIT}
-use Rattle.roll_contact.specs.Contacts.{after_hello, after_play, is_before, is_playing, is_silent, refused}
+use Rattle.roll_contact.specs.Contacts.{after_hello, after_play, is_before, is_newer, is_playing, is_silent, refused}
 use Rattle.roll_contact.specs.Keys.{block_of}
-use Rattle.roll_contact.specs.Seals.{HasNumber, named, sealed, tag, unsealed}
+use Rattle.roll_contact.specs.Seals.{HasNumber, sealed, tag, unsealed}
 use Rattle.roll_contact.specs.declared.contact.Contact.{Contact}
 use Rattle.roll_contact.specs.declared.contact.Opening.{Opening}
+use Rattle.roll_contact.specs.declared.contact.TheConstants.{BEHIND_LIMIT, CLOCKS_EVERY, CLOCKS_IN_PATIENCE, HELLO_AT, HELLO_EVERY, PATIENCE_PARTS, ROUND_TRIP_LIMIT, UNANSWERED}
 use Rattle.roll_contact.specs.declared.key.Key.{Key}
+use Rattle.roll_contact.specs.declared.key.TheConstants.{BLOCK}
+use Rattle.roll_contact.specs.declared.seal.TheConstants.{INNER, OUTER}
 use Rattle.roll_contact.specs.declared.terms.Field.{Field}
 
 -- a draw is believed only by a hello that says this opening's own
@@ -38,6 +40,7 @@ pub record OnlyAnEchoIsBelieved : Type 0 where
 
 -- plays that come one after the other, each with its clocks if it has some, at a frame and a moment
 pub record Coming : Type 0 where
+  pub number : ℕ
   pub clocks : Option Clocks
   pub frame : ℕ
   pub now : ℕ
@@ -45,7 +48,7 @@ pub record Coming : Type 0 where
 unfoldable pub after_plays : List Coming → Contact → Contact
 after_plays [] contact = contact
 after_plays (play ∷ plays) contact =
-    after_plays plays (after_play play.clocks play.frame play.now contact)
+    after_plays plays (after_play play.number play.clocks play.frame play.now contact)
 
 -- its clocks came back before: none, or one that isn't newer than the newest
 abbrev pub IsOld : ℕ → Coming → Type 0
@@ -62,6 +65,47 @@ CopiesEndNoSilence = (plays : List Coming) (contact : Contact) (now silent_after
 abbrev pub RefusalsEndNoSilence : Type 0
 RefusalsEndNoSilence = (contact : Contact) (now silent_after : ℕ)
     → is_silent (refused contact) now silent_after ≡ is_silent contact now silent_after
+
+-- what comes of an end: a hello, a play, or what is refused
+pub data Came : Type 0 where
+  Greeting : Option Field → Hello → (now : ℕ) → Came
+  Turn : Coming → Came
+  Refusal : Came
+
+abbrev pub after_one : Opening → Came → Contact → Contact
+after_one own (Greeting mismatch hello now) contact = after_hello own mismatch hello now contact
+after_one own (Turn play) contact = after_play play.number play.clocks play.frame play.now contact
+after_one own Refusal contact = refused contact
+
+-- one after the other
+unfoldable pub after_all : Opening → List Came → Contact → Contact
+after_all own [] contact = contact
+after_all own (one ∷ more) contact = after_all own more (after_one own one contact)
+
+-- a play is newer once
+pub record HeardIsOld : Type 0 where
+  -- as it is heard, the number rises from which on others are
+  pub passes : (play : Coming) (contact : Contact) → play.number < 2 ^ 32 - 1
+      → nat_lt contact.after (after_play play.number play.clocks play.frame play.now contact).after
+      ≡ is_newer contact play.number
+  -- and it isn't newer again, whatever comes in between
+  pub lasts : (own : Opening) (play : Coming) (came : List Came) (contact : Contact)
+      → play.number < 2 ^ 32 - 1
+      → is_newer (after_all own (Turn play ∷ came) contact) play.number ≡ false
+
+-- the numbers that other definitions name
+pub record PlainNumbers : Type 0 where
+  pub unanswered : UNANSWERED ≡ 10
+  pub clocks_every : CLOCKS_EVERY ≡ 16
+  pub clocks_in_patience : CLOCKS_IN_PATIENCE ≡ 16
+  pub patience_parts : PATIENCE_PARTS ≡ 4
+  pub hello_every : HELLO_EVERY ≡ 16
+  pub hello_at : HELLO_AT ≡ 8
+  pub round_trip_limit : ROUND_TRIP_LIMIT ≡ 60000
+  pub behind_limit : BEHIND_LIMIT ≡ pos 1048576
+  pub block : BLOCK ≡ 64
+  pub inner : INNER ≡ 54
+  pub outer : OUTER ≡ 92
 
 abbrev pub IsKey : Key → Type 0
 IsKey key = (key.number < 2 ^ 64) × ((key.from < 2 ^ 64) × (key.to < 2 ^ 64))

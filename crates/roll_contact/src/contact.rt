@@ -1,7 +1,7 @@
 //! What this end knows of another.
 ghost use Rattle.std.specs.Prelude.{◌≡◌};
 ghost use Rattle.roll_contact.specs.Clocks.{difference};
-ghost use Rattle.roll_contact.specs.Contacts.{after_clocks, after_hello, after_play, answered_later, are_clocks_due, are_newer, behind_of, believing, clocks_for, confirming, counted, frame_after, greeted, heard, heard_later, heard_too, hello_echo, hello_sent, hushed, is_before, is_fresh, is_hushed, is_one_opening, is_playing, is_silent, is_unanswered, least_patience, measured, meeting, opened_contact, other_opening, play_sent, refused, says_hello, silence, told, unanswered_for, wants_clocks};
+ghost use Rattle.roll_contact.specs.Contacts.{after_clocks, after_hello, after_play, answered_later, are_clocks_due, are_newer, behind_of, believing, clocks_for, confirming, counted, frame_after, greeted, heard, heard_later, heard_too, hello_echo, hello_sent, hushed, is_before, is_fresh, is_hushed, is_one_opening, is_playing, is_silent, is_unanswered, least_patience, measured, meeting, opened_contact, other_opening, passing, play_sent, refused, says_hello, silence, told, unanswered_for, wants_clocks};
 
 use crate::clock::since;
 use crate::terms::{CARRIES, Field};
@@ -53,7 +53,7 @@ pub enum Stage {
 /// The last clocks that were heard of an end.
 #[derive(Clone, Copy, Debug)]
 pub struct TheirClocks {
-    /// How many packets it had sent before.
+    /// The number of the play that had them.
     pub number: u32,
     /// Its frame.
     pub frame: u32,
@@ -110,12 +110,12 @@ pub struct Contact {
     pub sent: u32,
     /// How many packets of it were heard.
     pub received: u32,
+    /// One more than the greatest number of a play of it that was heard, 0 before the first.
+    pub after: u32,
     /// How many it had sent by its last clocks, and as many as were heard since.
     pub expected: u32,
     /// How many packets that it sealed were refused.
     pub refused: u32,
-    /// Whether the last that it sealed was.
-    pub is_refusing: bool,
 }
 
 impl Contact {
@@ -146,9 +146,9 @@ impl Contact {
             round_trip: None,
             sent: 0,
             received: 0,
+            after: 0,
             expected: 0,
             refused: 0,
-            is_refusing: false,
         }
     }
 
@@ -221,17 +221,26 @@ impl Contact {
         self.unanswered = 0;
     }
 
-    /// A play was heard, with clocks or without, while this end is at a frame.
+    /// A play of a number was heard, with clocks or without, while this end is at a frame.
     #[tactic(auto, unfolding(crate::specs::Contacts::after_play))]
-    pub fn play(&mut self, clocks: Option<Clocks>, frame: u32, now: u32)
-        ensures { self.new ≡ after_play clocks frame now self.old }
+    pub fn play(&mut self, number: u32, clocks: Option<Clocks>, frame: u32, now: u32)
+        ensures { self.new ≡ after_play number clocks frame now self.old }
     {
         self.heard(now);
         self.confirm(now);
-        self.is_refusing = false;
+        self.pass(number);
         match clocks {
-            Some(clocks) if self.are_newer(&clocks) => self.clocks(&clocks, frame, now),
+            Some(clocks) if self.are_newer(number) => self.clocks(number, &clocks, frame, now),
             _ => {}
+        }
+    }
+
+    /// If a play is newer than all that were heard, others are only newer if they come after it.
+    fn pass(&mut self, number: u32)
+        ensures { self.new ≡ passing number self.old }
+    {
+        if number >= self.after {
+            self.after = number.saturating_add(1);
         }
     }
 
@@ -253,23 +262,23 @@ impl Contact {
         matches!(self.stage, Stage::Playing)
     }
 
-    /// Whether clocks are later than the last that were heard.
-    fn are_newer(&self, clocks: &Clocks) -> bool
-        ensures { result ≡ are_newer self.now.their_clocks clocks.now }
+    /// Whether the clocks of a play are later than the last that were heard.
+    fn are_newer(&self, number: u32) -> bool
+        ensures { result ≡ are_newer self.now.their_clocks number }
     {
         match self.their_clocks {
             None => true,
-            Some(theirs) => theirs.number < clocks.number,
+            Some(theirs) => theirs.number < number,
         }
     }
 
-    /// Its clocks were heard, which are newer than all before.
-    fn clocks(&mut self, clocks: &Clocks, frame: u32, now: u32)
-        ensures { self.new ≡ after_clocks clocks.now frame now self.old }
+    /// The clocks of a play were heard, which are newer than all before.
+    fn clocks(&mut self, number: u32, clocks: &Clocks, frame: u32, now: u32)
+        ensures { self.new ≡ after_clocks number clocks.now frame now self.old }
     {
         self.answer(clocks.heard_clock, now);
         self.their_clocks = Some(TheirClocks {
-            number: clocks.number,
+            number,
             frame: clocks.frame,
             clock: clocks.clock,
             heard_at: now,
@@ -277,7 +286,7 @@ impl Contact {
         self.behind = behind(clocks.frame, frame);
         self.their_behind = behind(clocks.heard_frame, clocks.frame);
         self.round_trip = measured(clocks, now).or(self.round_trip);
-        self.expected = clocks.number.saturating_add(1);
+        self.expected = number.saturating_add(1);
     }
 
     /// A clock of this end's own came back. It ends a silence if it is newer than all that came back before.
@@ -300,7 +309,6 @@ impl Contact {
             None => (0, 0),
         };
         Clocks {
-            number: self.sent,
             frame,
             heard_frame: frame_after(frame, self.behind),
             clock: now.max(1),
@@ -479,7 +487,6 @@ impl Contact {
         ensures { self.new ≡ refused self.old }
     {
         self.refused = self.refused.saturating_add(1);
-        self.is_refusing = true;
     }
 }
 

@@ -1,5 +1,5 @@
 //! Laws of connections, each the contract of a function that makes no call.
-ghost use Rattle.roll_contact.specs.Laws.{CopiesEndNoSilence, KeysDiffer, OnlyAnEchoIsBelieved, RefusalsEndNoSilence};
+ghost use Rattle.roll_contact.specs.Laws.{CopiesEndNoSilence, HeardIsOld, KeysDiffer, OnlyAnEchoIsBelieved, PlainNumbers, RefusalsEndNoSilence};
 
 /// A draw is believed only by a hello that says this opening's own draw, and no other takes its place.
 pub fn only_an_echo_is_believed()
@@ -14,6 +14,16 @@ pub fn copies_end_no_silence()
 /// What is refused ends no silence.
 pub fn refusals_end_no_silence()
     ensures { RefusalsEndNoSilence }
+{}
+
+/// A play that was heard is never newer again: sent once more, it says nothing of who is heard straight.
+pub fn heard_is_old()
+    ensures { HeardIsOld }
+{}
+
+/// The numbers that the other clauses name.
+pub fn plain_numbers()
+    ensures { PlainNumbers }
 {}
 
 /// Openings whose draws differ seal by keys that differ. A datagram that was sealed by one key is opened by another only if both

@@ -1,5 +1,5 @@
 -- What a relay makes of what comes and goes.
-use Rattle.std.specs.Prelude.{◌≡◌, ◌⊎◌, ℕ, List, [], ◌∷◌, replicate, take, Bool, true, false, not, ◌&&◌, ◌||◌, ◌==◌, Option, Some, None, Result, Ok, Err, if◌then◌else◌}
+use Rattle.std.specs.Prelude.{◌≡◌, ◌⊎◌, ℕ, List, [], ◌∷◌, replicate, take, Bool, true, false, not, ◌&&◌, ◌||◌, ◌==◌, nat_lt, Option, Some, None, Result, Ok, Err, if◌then◌else◌}
 use Rattle.roll_carry.specs.Carrying.{after_carried, after_handed, after_sent, after_taken, after_told, first_owed, first_waited_for, goes_at_once, Carrying}
 use Rattle.roll_carry.specs.Mapping.{after_map, heard_straight}
 use Rattle.roll_carry.specs.Reading.{map_of, parcels_of, tail_of}
@@ -13,7 +13,7 @@ use Rattle.roll_member.specs.Beside.{IsOf}
 use Rattle.roll_mesh.specs.Machines.{at_places}
 use Rattle.std.specs.List.{slice_get, AllByRecursion}
 use Rattle.roll_mesh.specs.declared.limits.TheConstants.{MACHINE_LIMIT}
-use Rattle.roll_peer.specs.Peered.{Peered}
+use Rattle.roll_peer.specs.Peered.{contact_at, Peered}
 use Rattle.roll_peer.specs.Receiving.{byte_at, meeting, moment_of, sender_of, ticking}
 use Rattle.roll_peer.specs.Requests.{Beside, HearsBytes}
 use Rattle.roll_peer.specs.Sending.{after_send, can_carry, carried_key, is_lost, text_for, with_draws, IsSent}
@@ -21,7 +21,6 @@ use Rattle.roll_peer.specs.declared.received.Ignored.{Ignored}
 use Rattle.roll_peer.specs.declared.received.Ignored.TheVariants.{NotSealed, NoDatagram}
 use Rattle.roll_peer.specs.declared.received.Received.{Received}
 use Rattle.roll_relay.specs.declared.relay.TheConstants.{KIND_AT}
-use Rattle.roll_peer.specs.declared.received.Received.TheVariants.{Hello as HelloHeard, Play as PlayHeard, Bye as ByeHeard}
 use Rattle.roll_relay.specs.declared.heard.Heard.{Heard}
 use Rattle.roll_relay.specs.declared.heard.Heard.TheVariants.{Straight, Map, Carried}
 use Rattle.roll_session.specs.Seen.{Seen, Step}
@@ -56,15 +55,15 @@ kind_of bytes = byte_at bytes KIND_AT
 abbrev pub is_of_lines : (kind : ℕ) → Bool
 is_of_lines kind = (kind == MAP) || (kind == CARRIED)
 
--- whether it shows that its sender is heard straight: a hello may be an old one, which somebody has kept
-abbrev pub is_play_or_bye : Received → Bool
-is_play_or_bye (HelloHeard sender) = false
-is_play_or_bye (PlayHeard sender taken) = true
-is_play_or_bye (ByeHeard sender) = true
+-- whether a play of a machine was heard that is newer than all before: whatever else comes may be old, and kept by somebody
+abbrev pub has_played : (before after : Peered) → (machine : ℕ) → Bool
+has_played before after machine = nat_lt (contact_at before machine).after (contact_at after machine).after
 
--- a machine was heard straight, at the moment that the peer's clock shows
-abbrev pub hearing : Peered → (machine : ℕ) → Carrying → Carrying
-hearing peer machine here = record here { map = heard_straight machine (moment_of peer) here.map }
+-- then the machine was heard straight, at the moment that the peer's clock shows, if the play has come from it
+abbrev pub hearing : (before after : Peered) → (machine : ℕ) → Carrying → Carrying
+hearing before after machine here =
+    if has_played before after machine
+    then record here { map = heard_straight machine (moment_of after) here.map } else here
 
 -- what bytes held before they were sealed, or why they aren't heard
 abbrev pub opened_text : Option (List ℕ) → Result (List ℕ) Ignored
@@ -114,38 +113,39 @@ abbrev pub HearsInside : Step → (now : ℕ) → (is_of_lines : Bool) → (old 
 HearsInside step now true old new bytes = new ≡ old
 HearsInside step now false old new bytes = (said : Result Received Ignored) × HearsBytes step old new now bytes said
 
--- its own parcel is heard here, and any other handed on
-abbrev pub HearsParcel : Step → (now : ℕ) → (old new : Relayed) → ParcelValue → Type 0
-HearsParcel step now old new parcel =
+-- what a machine gave for this one was heard: it came from its maker, if that is who gave it
+abbrev pub hearing_of : (sender : ℕ) → (before after : Peered) → ParcelValue → Carrying → Carrying
+hearing_of sender before after parcel here =
+    if maker_of parcel == sender then hearing before after sender here else here
+
+-- of what a machine gave, this one's own parcel is heard here, and any other handed on
+abbrev pub HearsParcel : Step → (now sender : ℕ) → (old new : Relayed) → ParcelValue → Type 0
+HearsParcel step now sender old new parcel =
     ((parcel.to ≡ old.beside.peer.settings.me)
     × HearsInside step now (is_of_lines (kind_of (datagram_of parcel))) old.beside new.beside (datagram_of parcel)
-    × (new.carrying ≡ old.carrying))
+    × (new.carrying ≡ hearing_of sender old.beside.peer new.beside.peer parcel old.carrying))
     ⊎ ((parcel.to ≡ old.beside.peer.settings.me → ⊥) × (new.beside ≡ old.beside)
     × (new.carrying ≡ handing old.beside.peer parcel old.carrying))
 
 -- one parcel after another
-abbrev pub HearsParcels : Step → (now : ℕ) → Relayed → List ParcelValue → Relayed → Type 0
-HearsParcels step now old [] new = new ≡ old
-HearsParcels step now old (parcel ∷ more) new =
-    (next : Relayed) × HearsParcel step now old next parcel × HearsParcels step now next more new
+abbrev pub HearsParcels : Step → (now sender : ℕ) → Relayed → List ParcelValue → Relayed → Type 0
+HearsParcels step now sender old [] new = new ≡ old
+HearsParcels step now sender old (parcel ∷ more) new =
+    (next : Relayed) × HearsParcel step now sender old next parcel × HearsParcels step now sender next more new
 
 -- bytes came, and this is said of them
 abbrev pub Hears : Step → (now : ℕ) → (old new : Relayed) → List ℕ → Heard → Type 0
 Hears step now old new bytes (Straight received) =
     HearsBytes step old.beside new.beside now bytes (Ok received)
-    × (new.carrying ≡ (if is_play_or_bye received
-    then hearing new.beside.peer (sender_of bytes) old.carrying else old.carrying))
+    × (new.carrying ≡ hearing old.beside.peer new.beside.peer (sender_of bytes) old.carrying)
 Hears step now old new bytes (Map sender) =
     (sender ≡ sender_of bytes) × (new.beside ≡ old.beside)
     × ((told : List Hearing) × (map_in old.beside.peer bytes ≡ Ok told)
-    × (new.carrying ≡ record (hearing old.beside.peer sender old.carrying) {
-      map = after_map told (hearing old.beside.peer sender old.carrying).map;
-    }))
+    × (new.carrying ≡ record old.carrying { map = after_map told old.carrying.map }))
 Hears step now old new bytes (Carried sender) =
     (sender ≡ sender_of bytes)
     × ((parcels : List ParcelValue) × HoldsParcels old.beside.peer bytes parcels
-    × HearsParcels step now
-    (record old { carrying = hearing old.beside.peer sender old.carrying }) parcels new)
+    × HearsParcels step now sender old parcels new)
 
 -- what a kind is said to be, by who hears it
 abbrev pub is_said : (kind : ℕ) → Heard → Bool

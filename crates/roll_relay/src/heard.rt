@@ -13,7 +13,7 @@ pub enum Heard {
     },
     /// A machine gave datagrams that it carries: those for this machine were heard, and others handed on.
     Carried {
-        /// The machine that gave them, which made none of them.
+        /// The machine that gave them.
         sender: u8,
     },
 }

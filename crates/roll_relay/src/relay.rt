@@ -1,16 +1,17 @@
 //! What goes between machines whose line may be broken.
-ghost use Rattle.std.specs.Prelude.{◌≡◌, ℕ, ◌≤◌, List, length, true, Err, Ok, IfErr, IfOk, OnErr, if◌then◌else◌};
+ghost use Rattle.std.specs.Prelude.{◌≡◌, ℕ, ◌≤◌, nat_lt, List, length, true, Err, Ok, IfErr, IfOk, OnErr, if◌then◌else◌};
 ghost use Rattle.std.specs.List.{AllByRecursion};
 ghost use Rattle.roll_carry.specs.Carrying.{opened_carrying, turned};
-ghost use Rattle.roll_carry.specs.Mapping.{after_map};
-ghost use Rattle.roll_carry.specs.Spelling.{area_text, IsParcel, ParcelValue, parcel_value};
+ghost use Rattle.roll_carry.specs.Mapping.{after_map, heard_straight};
+ghost use Rattle.roll_carry.specs.Spelling.{area_text, datagram_of, IsParcel, ParcelValue, parcel_value};
 ghost use Rattle.roll_carry.specs.declared.datagram.Hearing.{Hearing};
 ghost use Rattle.roll_carry.specs.declared.limits.TheConstants.{AREA_LIMIT, TAIL_LEAST};
 ghost use Rattle.roll_mesh.specs.Machines.{is_in};
+ghost use Rattle.roll_peer.specs.Peered.{contact_at};
 ghost use Rattle.roll_peer.specs.Sending.{can_carry};
 ghost use Rattle.roll_peer.specs.Receiving.{byte_at, moment_of, sender_of};
 ghost use Rattle.roll_peer.specs.Requests.{HearsBytes};
-ghost use Rattle.roll_relay.specs.Relaying.{are_here, handing, hearing, is_of_lines, is_play_or_bye, is_said, kind_of, map_in, parcels_in, ready_of, shut_of, text_in, Hears, HearsInside, HearsParcel, HearsParcels, HoldsParcels, IsUnheard};
+ghost use Rattle.roll_relay.specs.Relaying.{are_here, handing, hearing, hearing_of, is_of_lines, is_said, kind_of, map_in, parcels_in, ready_of, shut_of, text_in, Hears, HearsInside, HearsParcel, HearsParcels, HoldsParcels, IsUnheard};
 
 use crate::heard::Heard;
 use arrayvec::ArrayVec;
@@ -117,33 +118,32 @@ impl Relay {
         ensures heard { IfOk result (λ heard. (received : Received) × (heard ≡ Heard.Straight received)
             × HearsBytes S.step (record { session = S.seen session.old; peer = peer.old })
             (record { session = S.seen session.new; peer = peer.new }) now bytes.now (Ok received)
-            × (self.new ≡ (if is_play_or_bye received
-            then hearing peer.new (sender_of bytes.now) self.old else self.old))) }
+            × (self.new ≡ hearing peer.old peer.new (sender_of bytes.now) self.old)) }
         ensures ignored { IfErr result (λ why. HearsBytes S.step
             (record { session = S.seen session.old; peer = peer.old })
             (record { session = S.seen session.new; peer = peer.new }) now bytes.now (Err why)) }
         ensures unchanged { OnErr result (self.new ≡ self.old) }
         ensures keeps { S.keeps session.old session.new }
     {
+        let sender = byte_of(bytes, SENDER_AT);
+        let before = peer.after(sender);
         match peer.receive(session, bytes, now) {
             Ok(received) => {
-                self.note_straight(peer, bytes, received);
+                self.note_straight(peer, sender, before);
                 Ok(Heard::Straight(received))
             }
             Err(why) => Err(why),
         }
     }
 
-    /// What came straight was heard. A hello doesn't show that its sender is heard now: it may be an old one, which somebody has kept.
-    fn note_straight(&mut self, peer: &Peer, bytes: &[u8], received: Received)
-        ensures { self.new ≡ (if is_play_or_bye received
-            then hearing peer.now (sender_of bytes.now) self.old else self.old) }
+    /// What came straight was heard. It shows that the line works if it is a play that is newer than all before: whatever else comes may
+    /// be old, and kept by somebody.
+    fn note_straight(&mut self, peer: &Peer, machine: u8, before: u32)
+        ensures { self.new ≡ (if nat_lt before (contact_at peer.now machine).after
+            then record self.old { map = heard_straight machine (moment_of peer.now) self.old.map } else self.old) }
     {
-        match received {
-            Received::Hello { .. } => {}
-            Received::Play { .. } | Received::Bye { .. } => self
-                .carrier
-                .heard_straight(byte_of(bytes, SENDER_AT), peer.moment()),
+        if before < peer.after(machine) {
+            self.carrier.heard_straight(machine, peer.moment());
         }
     }
 
@@ -151,15 +151,12 @@ impl Relay {
     fn receive_map(&mut self, peer: &Peer, bytes: &[u8]) -> Result<Heard, Ignored>
         ensures heard { IfOk result (λ heard. (heard ≡ Heard.Map (sender_of bytes.now))
             × ((told : List Hearing) × (map_in peer.now bytes.now ≡ Ok told)
-            × (self.new ≡ record (hearing peer.now (sender_of bytes.now) self.old) {
-              map = after_map told (hearing peer.now (sender_of bytes.now) self.old).map;
-            }))) }
+            × (self.new ≡ record self.old { map = after_map told self.old.map }))) }
         ensures ignored { IfErr result (λ why. map_in peer.now bytes.now ≡ Err why) }
         ensures unchanged { OnErr result (self.new ≡ self.old) }
     {
         let sender = byte_of(bytes, SENDER_AT);
         let told = map_in(peer, bytes)?;
-        self.carrier.heard_straight(sender, peer.moment());
         self.carrier.take_map(told.as_slice());
         Ok(Heard::Map { sender })
     }
@@ -174,11 +171,8 @@ impl Relay {
     ) -> Result<Heard, Ignored>
         ensures heard { IfOk result (λ heard. (heard ≡ Heard.Carried (sender_of bytes.now))
             × ((parcels : List ParcelValue) × HoldsParcels peer.old bytes.now parcels
-            × HearsParcels S.step now
-            (record {
-              beside = record { session = S.seen session.old; peer = peer.old };
-              carrying = hearing peer.old (sender_of bytes.now) self.old;
-            }) parcels
+            × HearsParcels S.step now (sender_of bytes.now)
+            (record { beside = record { session = S.seen session.old; peer = peer.old }; carrying = self.old }) parcels
             (record { beside = record { session = S.seen session.new; peer = peer.new }; carrying = self.new }))) }
         ensures ignored { IfErr result (λ why. parcels_in peer.old bytes.now ≡ Err why) }
         ensures unchanged { OnErr result (self.new ≡ self.old) }
@@ -190,32 +184,32 @@ impl Relay {
         let text = text_in(peer, bytes)?;
         match read_parcels(&text) {
             Ok(area) => {
-                self.carrier.heard_straight(sender, peer.moment());
-                self.hear_parcels(peer, session, area, now);
+                self.hear_parcels(peer, session, sender, area, now);
                 Ok(Heard::Carried { sender })
             }
             Err(fault) => Err(Ignored::NoDatagram(fault)),
         }
     }
 
-    /// One parcel after another: those of this machine are heard, and any other handed on.
+    /// One parcel after another that a machine gave: those of this machine are heard, and any other handed on.
     fn hear_parcels<S: Networked>(
         &mut self,
         peer: &mut Peer,
         session: &mut S,
+        sender: u8,
         area: &[u8],
         now: u32,
     )
         requires { length area.now ≤ AREA_LIMIT }
         ensures heard { (parcels : List ParcelValue) → AllByRecursion IsParcel parcels → area.now ≡ area_text parcels
-            → HearsParcels S.step now
+            → HearsParcels S.step now sender
             (record { beside = record { session = S.seen session.old; peer = peer.old }; carrying = self.old }) parcels
             (record { beside = record { session = S.seen session.new; peer = peer.new }; carrying = self.new }) }
         ensures keeps { S.keeps session.old session.new }
     {
         if let Some((parcel, others)) = first_parcel(area) {
-            self.hear_parcel(peer, session, &parcel, now);
-            self.hear_parcels(peer, session, others, now);
+            self.hear_parcel(peer, session, sender, &parcel, now);
+            self.hear_parcels(peer, session, sender, others, now);
         }
     }
 
@@ -224,20 +218,44 @@ impl Relay {
         &mut self,
         peer: &mut Peer,
         session: &mut S,
+        sender: u8,
         parcel: &Parcel,
         now: u32,
     )
         requires { IsParcel (parcel_value parcel.now) }
-        ensures heard { HearsParcel S.step now
+        ensures heard { HearsParcel S.step now sender
             (record { beside = record { session = S.seen session.old; peer = peer.old }; carrying = self.old })
             (record { beside = record { session = S.seen session.new; peer = peer.new }; carrying = self.new })
             (parcel_value parcel.now) }
         ensures keeps { S.keeps session.old session.new }
     {
         if parcel.to == peer.settings().me {
-            hear_inside(peer, session, &parcel.datagram(), now);
+            self.hear_own(peer, session, sender, parcel, now);
         } else {
             self.hand_on(peer, parcel);
+        }
+    }
+
+    /// What a machine gave for this one is heard. It has come straight if that machine made it.
+    fn hear_own<S: Networked>(
+        &mut self,
+        peer: &mut Peer,
+        session: &mut S,
+        sender: u8,
+        parcel: &Parcel,
+        now: u32,
+    )
+        requires { IsParcel (parcel_value parcel.now) }
+        ensures heard { HearsInside S.step now (is_of_lines (kind_of (datagram_of (parcel_value parcel.now))))
+            (record { session = S.seen session.old; peer = peer.old })
+            (record { session = S.seen session.new; peer = peer.new }) (datagram_of (parcel_value parcel.now)) }
+        ensures straight { self.new ≡ hearing_of sender peer.old peer.new (parcel_value parcel.now) self.old }
+        ensures keeps { S.keeps session.old session.new }
+    {
+        let before = peer.after(sender);
+        hear_inside(peer, session, &parcel.datagram(), now);
+        if parcel.maker() == sender {
+            self.note_straight(peer, sender, before);
         }
     }
 

@@ -22,10 +22,10 @@ use Rattle.roll_viewer.specs.declared.line.TheConstants.{KIND_AT, SENDER_AT}
 use Rattle.roll_viewer.proofs.ReadBack.{has_number, long}
 
 -- no word that a host tells has a mark
-pub unmarked_told : (core : Core) (had : ℕ) (clocks : Option Clocks)
-    → is_unmarked (Plays (with_clocks clocks (told_to core had))) ≡ true
+pub unmarked_told : (core : Core) (had number : ℕ) (clocks : Option Clocks)
+    → is_unmarked (Plays (with_clocks number clocks (told_to core had))) ≡ true
 unfolding told_to
-unmarked_told core had clocks = refl
+unmarked_told core had number clocks = refl
 
 module _ (key : Key) (sender : ℕ) (t : Turn) where
   abbrev text : List ℕ

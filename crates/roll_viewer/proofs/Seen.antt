@@ -54,8 +54,9 @@ record IsTold (settings : Settings) (log : List Entry) (t : Turn) : Type 0 where
   later : List Entry
   parts : earlier ++ later ≡ log
   had : ℕ
+  number : ℕ
   clocks : Option Clocks
-  told : t ≡ with_clocks clocks (told_to (replay settings earlier) had)
+  told : t ≡ with_clocks number clocks (told_to (replay settings earlier) had)
 
 play_is : (t u : Turn) → Plays t ≡ Plays u → t ≡ u
 play_is t u e = cc e
@@ -70,8 +71,8 @@ module _ (settings : Settings) (log : List Entry) (number : ℕ) (bytes : List �
 
   play_read : (s : IsOfTurn settings log number bytes) (t : Turn) → opened line sender bytes ≡ Ok (Plays t) → (b : Bool)
       → says_hello s.host.line.contact ≡ b
-      → Plays t ≡ (if b then greeting s.host.line else Plays (with_clocks (clocks_at s.host.line (with_told s.host (replay settings s.earlier)).told s.now) (told_to (replay settings s.earlier) s.host.had)))
-      → t ≡ with_clocks (clocks_at s.host.line (with_told s.host (replay settings s.earlier)).told s.now) (told_to (replay settings s.earlier) s.host.had)
+      → Plays t ≡ (if b then greeting s.host.line else Plays (with_clocks s.host.line.contact.sent (clocks_at s.host.line (with_told s.host (replay settings s.earlier)).told s.now) (told_to (replay settings s.earlier) s.host.had)))
+      → t ≡ with_clocks s.host.line.contact.sent (clocks_at s.host.line (with_told s.host (replay settings s.earlier)).told s.now) (told_to (replay settings s.earlier) s.host.had)
   play_read s t e true b is = absurd (cc is)
   play_read s t e false b is = play_is t _ is
 
@@ -81,6 +82,7 @@ module _ (settings : Settings) (log : List Entry) (number : ℕ) (bytes : List �
     later = s.later;
     parts = s.parts;
     had = s.host.had;
+    number = s.host.line.contact.sent;
     clocks = clocks_at s.host.line (with_told s.host (replay settings s.earlier)).told s.now;
     told = play_read s t e (says_hello s.host.line.contact) refl (turn_read s (Plays t) e);
   }
@@ -230,10 +232,10 @@ module _ (settings : Settings) (game : Game) (log : List Entry) (l : IsLog setti
       clocks = clocks_at s.host.line (with_told s.host core).told s.now
 
       reads : (what : Content) → opened old.viewer.line old.viewer.line.settings.host h.bytes ≡ Ok what
-          → what ≡ Plays (with_clocks clocks (told_to core s.host.had))
+          → what ≡ Plays (with_clocks s.host.line.contact.sent clocks (told_to core s.host.had))
       reads what e =
           turn_read settings log old.viewer.line.settings.number h.bytes old.viewer.line refl old.viewer.line.settings.host s what e
-          ∙ ap (λ (b : Bool). if b then greeting s.host.line else Plays (with_clocks clocks (told_to core s.host.had))) playing
+          ∙ ap (λ (b : Bool). if b then greeting s.host.line else Plays (with_clocks s.host.line.contact.sent clocks (told_to core s.host.had))) playing
 
       go : (what : Content) → opened old.viewer.line old.viewer.line.settings.host h.bytes ≡ Ok what
           → Hears old.viewer new.viewer h.now what h.count
@@ -241,7 +243,7 @@ module _ (settings : Settings) (game : Game) (log : List Entry) (l : IsLog setti
       go (Greets hello) e heard = (let is = reads (Greets hello) e in absurd (cc is))
       go Leaves e heard = (let is = reads Leaves e in absurd (cc is))
       go (Plays t) e heard =
-          let told : t ≡ with_clocks clocks (told_to core s.host.had) = play_is t _ (reads (Plays t) e) in
+          let told : t ≡ with_clocks s.host.line.contact.sent clocks (told_to core s.host.had) = play_is t _ (reads (Plays t) e) in
           let accepted : unread old.viewer t ≡ None = ap (ignored_by_viewer old.viewer) (sym e) ∙ h.accepted in
           let reach : first_row t ≤ old.viewer.rows.count = heard_from old.viewer t accepted in
           let first : first_row t ≡ s.host.had =
@@ -264,14 +266,14 @@ module _ (settings : Settings) (game : Game) (log : List Entry) (l : IsLog setti
   all_heard viewer bytes s players can playing most low =
       let core : Core = replay settings s.earlier in
       let clocks : Option Clocks = clocks_at s.host.line (with_told s.host core).told s.now in
-      let t : Turn = with_clocks clocks (told_to core s.host.had) in
+      let t : Turn = with_clocks s.host.line.contact.sent clocks (told_to core s.host.had) in
       let says : host_says s.host core s.now ≡ Plays t =
       ap (λ (b : Bool). if b then greeting s.host.line else Plays t) playing in
       let is : bytes ≡ said s.host.line s.host.line.settings.host (Plays t) =
       said_in s.host core s.now bytes s.sent ∙ ap (said s.host.line s.host.line.settings.host) says in
       let fits : Fits (message_of s.host.line s.host.line.settings.host (Plays t)) =
       subst (λ (what : Content). Fits (message_of s.host.line s.host.line.settings.host what)) says s.fits in
-      let none : is_unmarked (Plays t) ≡ true = unmarked_told core s.host.had clocks in
+      let none : is_unmarked (Plays t) ≡ true = unmarked_told core s.host.had s.host.line.contact.sent clocks in
       let are : are_rows (players_of viewer.line.settings) t ≡ true =
       ap (λ (n : ℕ). are_rows n t) players ∙ told_rows settings game log s.earlier s.later s.parts l s.host.had in
       ap (ignored_by_viewer viewer) (turn_opened s.host.line viewer.line t bytes can is fits most none)

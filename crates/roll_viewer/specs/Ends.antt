@@ -46,7 +46,7 @@ ignored_by_host host (Ok what) = unheard_by_host host what
 abbrev pub host_after : Hosted → ℕ → Content → Hosted
 host_after host now (Greets hello) = record host { line = after_hello host.line hello now }
 host_after host now (Plays t) = record host {
-  line = after_play host.line t.head.clocks host.told now;
+  line = after_play host.line t.head host.told now;
   had = after_ack host t.head.view.has;
 }
 host_after host now Leaves = record host { line = after_bye host.line }
@@ -66,7 +66,8 @@ with_told host core = record host { told = max host.told (host.had + room_after 
 abbrev pub host_says : Hosted → Core → (now : ℕ) → Content
 host_says host core now =
     if says_hello host.line.contact then greeting host.line
-    else Plays (with_clocks (clocks_at host.line (with_told host core).told now) (told_to core host.had))
+    else Plays (with_clocks host.line.contact.sent (clocks_at host.line (with_told host core).told now)
+    (told_to core host.had))
 
 -- as a datagram
 abbrev pub host_message : Hosted → Core → (now : ℕ) → Message
@@ -118,7 +119,7 @@ ignored_by_viewer viewer (Ok what) = unheard_by_viewer viewer what
 
 -- a play is heard, and its rows are taken in
 pub record HearsRows (old new : Viewing) (now : ℕ) (t : Turn) (count : ℕ) : Type 0 where
-  pub line : new.line ≡ after_play old.line t.head.clocks old.rows.count now
+  pub line : new.line ≡ after_play old.line t.head old.rows.count now
   pub settled : new.settled ≡ max old.settled (most_of t.head.view.has)
   pub rows : AreTaken (players_of old.line.settings) t old.rows new.rows count
 
@@ -136,9 +137,10 @@ pub record ViewerHears (old new : Viewing) (bytes : List ℕ) (now count : ℕ) 
   pub hears : Hears old new now what count
 
 -- a viewer of a match of so many players says how many rows it has
-abbrev pub acknowledged : (players rows : ℕ) → Option Clocks → Turn
-acknowledged players rows clocks = record {
+abbrev pub acknowledged : (players rows number : ℕ) → Option Clocks → Turn
+acknowledged players rows number clocks = record {
   head = record {
+    number = number;
     clocks = clocks;
     view = record {
       gone = replicate MACHINE_LIMIT false;
@@ -156,7 +158,8 @@ abbrev pub viewer_says : Viewing → (now : ℕ) → Content
 viewer_says viewer now =
     let rows = viewer.rows.count in
     if says_hello viewer.line.contact then greeting viewer.line
-    else Plays (acknowledged (players_of viewer.line.settings) rows (clocks_at viewer.line rows now))
+    else Plays (acknowledged (players_of viewer.line.settings) rows viewer.line.contact.sent
+    (clocks_at viewer.line rows now))
 
 -- and sends: nothing once the line has ended
 abbrev pub viewer_sends : Viewing → (now : ℕ) → Option (List ℕ)

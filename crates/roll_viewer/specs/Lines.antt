@@ -13,6 +13,7 @@ use Rattle.roll_mesh.specs.declared.limits.TheConstants.{MACHINE_LIMIT}
 use Rattle.roll_wire.specs.Reading.{unmarked_of}
 use Rattle.roll_wire.specs.Spelling.{Content, Greets, Leaves, Message, Plays}
 use Rattle.roll_wire.specs.declared.datagram.Clocks.{Clocks}
+use Rattle.roll_wire.specs.declared.datagram.Head.{Head}
 use Rattle.roll_wire.specs.declared.datagram.Hello.{Hello}
 use Rattle.roll_wire.specs.declared.fault.WireFault.{WireFault}
 use Rattle.roll_wire.specs.declared.limits.TheConstants.{DATAGRAM_LIMIT}
@@ -156,8 +157,8 @@ after_hello line hello now =
     (hello_heard (opening_of line.settings) (mismatch_of (terms_of line.settings) hello) hello)
     line
 
-abbrev pub after_play : Line → Option Clocks → (frame now : ℕ) → Line
-after_play line clocks frame now = at_moment now (play_heard clocks frame) line
+abbrev pub after_play : Line → Head → (frame now : ℕ) → Line
+after_play line head frame now = at_moment now (play_heard head.number head.clocks frame) line
 
 abbrev pub after_bye : Line → Line
 after_bye line = record line { ended = true }

@@ -63,6 +63,7 @@ has_by core = padded 0 (map (has_of (settled core)) core.players)
 unfoldable pub told_to : Core → (had : ℕ) → Turn
 told_to core had = record {
   head = record {
+    number = 0;
     clocks = None;
     view = record { gone = replicate MACHINE_LIMIT false; has = has_by core };
     settled = None;
@@ -72,6 +73,6 @@ told_to core had = record {
   words = words_in core.players (spans_to core had);
 }
 
--- the same with clocks
-abbrev pub with_clocks : Option Clocks → Turn → Turn
-with_clocks clocks t = record t { head = record t.head { clocks = clocks } }
+-- the same with a number and clocks
+abbrev pub with_clocks : (number : ℕ) → Option Clocks → Turn → Turn
+with_clocks number clocks t = record t { head = record t.head { number = number; clocks = clocks } }

@@ -105,7 +105,7 @@ impl ViewerLine {
             self.line.refuse();
             return Err(LineRefusal::NoRows);
         }
-        self.line.hear_play(play.head.clocks, self.told, now);
+        self.line.hear_play(&play.head, self.told, now);
         self.acknowledge(&play.head.view.has);
         Ok(())
     }
@@ -148,7 +148,7 @@ impl ViewerLine {
 
     /// The next rows, which the viewer is told from now on.
     fn tell<S: Settling>(&mut self, session: &S, now: u32) -> Play
-        ensures play { turn result ≡ with_clocks
+        ensures play { turn result ≡ with_clocks self.old.line.contact.sent
             (clocks_at self.old.line (with_told self.old (S.seen session.now).core).told now)
             (told_to (S.seen session.now).core self.old.had) }
         ensures whole { is_turn (turn result) ≡ true }
@@ -157,7 +157,7 @@ impl ViewerLine {
         let end = self.had + room_after(session, self.had);
         self.told = self.told.max(end);
         let clocks = self.line.clocks(self.told, now);
-        told_to(session, self.had, clocks)
+        told_to(session, self.had, self.line.contact.sent, clocks)
     }
 
     /// This machine leaves the viewer, and the line ends: the bytes that say so, if the viewer's draw is believed. Send them a few

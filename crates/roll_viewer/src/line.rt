@@ -9,7 +9,7 @@ use crate::settings::LineSettings;
 use arrayvec::ArrayVec;
 use roll_contact::seal::{say, unseal};
 use roll_contact::{Clock, Contact, Key};
-use roll_wire::{Body, Clocks, DATAGRAM_LIMIT, Hello, Play, decode_unmarked};
+use roll_wire::{Body, Clocks, DATAGRAM_LIMIT, Head, Hello, Play, decode_unmarked};
 
 /// Whom a viewer names as the sender: no machine of a match has this number.
 pub(crate) const VIEWER: u8 = 255;
@@ -124,11 +124,11 @@ impl Line {
     }
 
     /// A play is heard, with clocks or without, by an end that is at a frame.
-    pub(crate) fn hear_play(&mut self, clocks: Option<Clocks>, frame: u32, now: u32)
-        ensures { self.new ≡ after_play self.old clocks frame now }
+    pub(crate) fn hear_play(&mut self, head: &Head, frame: u32, now: u32)
+        ensures { self.new ≡ after_play self.old head.now frame now }
     {
         let moment = self.clock.tick(now);
-        self.contact.play(clocks, frame, moment);
+        self.contact.play(head.number, head.clocks, frame, moment);
     }
 
     /// Something that the other end sealed is refused.

@@ -141,15 +141,21 @@ fn words_in<S: Settling>(session: &S, spans: &[Offer]) -> ArrayVec<u32, WORD_LIM
     words
 }
 
-/// What a host tells a viewer who has so many rows, with these clocks.
-pub(crate) fn told_to<S: Settling>(session: &S, had: u32, clocks: Option<Clocks>) -> Play
-    ensures told { turn result ≡ with_clocks clocks (told_to (S.seen session.now).core had) }
+/// What a host tells a viewer who has so many rows, with a number and clocks.
+pub(crate) fn told_to<S: Settling>(
+    session: &S,
+    had: u32,
+    number: u32,
+    clocks: Option<Clocks>,
+) -> Play
+    ensures told { turn result ≡ with_clocks number clocks (told_to (S.seen session.now).core had) }
     ensures whole { is_turn (turn result) ≡ true }
 {
     session.laws();
     let spans = spans_to(session, had);
     Play {
         head: Head {
+            number,
             clocks,
             view: View {
                 gone: [false; MACHINE_LIMIT],
@@ -163,10 +169,10 @@ pub(crate) fn told_to<S: Settling>(session: &S, had: u32, clocks: Option<Clocks>
     }
 }
 
-/// What a viewer of a match of so many players says, who has so many rows, with these clocks.
-pub(crate) fn acknowledged(players: usize, rows: u32, clocks: Option<Clocks>) -> Play
+/// What a viewer of a match of so many players says, who has so many rows, with a number and clocks.
+pub(crate) fn acknowledged(players: usize, rows: u32, number: u32, clocks: Option<Clocks>) -> Play
     requires { players ≤ PLAYER_LIMIT }
-    ensures said { turn result ≡ acknowledged players rows clocks }
+    ensures said { turn result ≡ acknowledged players rows number clocks }
     ensures whole { is_turn (turn result) ≡ true }
 {
     let mut has = [0; PLAYER_LIMIT];
@@ -175,6 +181,7 @@ pub(crate) fn acknowledged(players: usize, rows: u32, clocks: Option<Clocks>) ->
     }
     Play {
         head: Head {
+            number,
             clocks,
             view: View {
                 gone: [false; MACHINE_LIMIT],

@@ -119,7 +119,7 @@ impl Viewer {
         if first_row(play) > rows {
             return Err(LineRefusal::Gap);
         }
-        self.line.hear_play(play.head.clocks, rows, now);
+        self.line.hear_play(&play.head, rows, now);
         self.settled = self.settled.max(most_of(&play.head.view.has));
         Ok(take_rows(&mut self.rows, players, play))
     }
@@ -155,7 +155,8 @@ impl Viewer {
         }
         let rows = self.rows.count();
         let clocks = self.line.clocks(rows, now);
-        let play = acknowledged(self.line.settings.players(), rows, clocks);
+        let number = self.line.contact.sent;
+        let play = acknowledged(self.line.settings.players(), rows, number, clocks);
         Some(self.line.play(VIEWER, play, now))
     }
 

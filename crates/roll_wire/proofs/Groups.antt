@@ -162,17 +162,16 @@ four_field =
     (both_at short_at two_at) short_field
     (both_field IsNumber short short_at Two two two_at short_field two_field)
 
-abbrev clocks_parts : List ℕ → Result ((ℕ × (ℕ × (ℕ × (ℕ × (ℕ × ℕ))))) × List ℕ) WireFault
-clocks_parts = both_at short_at (both_at short_at four_at)
+abbrev clocks_parts : List ℕ → Result ((ℕ × (ℕ × (ℕ × (ℕ × ℕ)))) × List ℕ) WireFault
+clocks_parts = both_at short_at four_at
 
-abbrev clocks_of : ℕ × (ℕ × (ℕ × (ℕ × (ℕ × ℕ)))) → Clocks
+abbrev clocks_of : ℕ × (ℕ × (ℕ × (ℕ × ℕ))) → Clocks
 clocks_of x = record {
-  number = x.0;
-  frame = x.1.0;
-  heard_frame = x.1.1.0;
-  clock = x.1.1.1.0;
-  heard_clock = x.1.1.1.1.0;
-  held = x.1.1.1.1.1;
+  frame = x.0;
+  heard_frame = x.1.0;
+  clock = x.1.1.0;
+  heard_clock = x.1.1.1.0;
+  held = x.1.1.1.1;
 }
 
 clocks_same : (bytes : List ℕ) → clocks_at bytes ≡ seen_at clocks_of clocks_parts bytes
@@ -183,12 +182,9 @@ pub clocks_field : IsField IsClocks clocks clocks_at
 clocks_field =
     same_field IsClocks clocks clocks_at (seen_at clocks_of clocks_parts) clocks_same
     (seen_field clocks_of
-    (λ c. (c.number, (c.frame, (c.heard_frame, (c.clock, (c.heard_clock, c.held))))))
-    (λ x. IsNumber x.0 × (IsNumber x.1.0 × Four x.1.1))
-    (λ x. short x.0 ++ (short x.1.0 ++ four x.1.1)) clocks_parts (λ x. refl) (λ c. refl)
-    (both_field IsNumber short short_at (λ x. IsNumber x.0 × Four x.1)
-    (λ x. short x.0 ++ four x.1) (both_at short_at four_at) short_field
-    (both_field IsNumber short short_at Four four four_at short_field four_field)))
+    (λ c. (c.frame, (c.heard_frame, (c.clock, (c.heard_clock, c.held)))))
+    (λ x. IsNumber x.0 × Four x.1) (λ x. short x.0 ++ four x.1) clocks_parts (λ x. refl)
+    (λ c. refl) (both_field IsNumber short short_at Four four four_at short_field four_field))
 
 -- ---- a settled state
 
@@ -350,33 +346,24 @@ view_field =
 abbrev AreOffers : List Offer → Type 0
 AreOffers os = (length os ≡ PLAYER_LIMIT) × AllByRecursion IsOffer os
 
-abbrev AreParts : Head → Type 0
-AreParts h = IfSome h.clocks IsClocks × (IsView h.view × (IfSome h.settled IsSettled
-    × AreOffers h.offers))
-
 abbrev Parts : Type 0
 Parts = Option Clocks × (View × (Option Settled × List Offer))
 
-abbrev head_parts : List ℕ → Result (Parts × List ℕ) WireFault
-head_parts = both_at (optional_at clocks_at)
+-- all but the number
+abbrev ArePlain : Parts → Type 0
+ArePlain x = IfSome x.0 IsClocks × (IsView x.1.0 × (IfSome x.1.1.0 IsSettled × AreOffers x.1.1.1))
+
+abbrev plain : Parts → List ℕ
+plain x = optional clocks x.0
+    ++ (view x.1.0 ++ (optional settled x.1.1.0 ++ masked is_offered offer x.1.1.1))
+
+abbrev plain_at : List ℕ → Result (Parts × List ℕ) WireFault
+plain_at = both_at (optional_at clocks_at)
     (both_at view_at (both_at (optional_at settled_at) (masked_at no_offer offer_at)))
 
-abbrev head_of : Parts → Head
-head_of x = record { clocks = x.0; view = x.1.0; settled = x.1.1.0; offers = x.1.1.1 }
-
-head_same : (bytes : List ℕ) → head_at bytes ≡ seen_at head_of head_parts bytes
-unfolding head_at
-head_same bytes = sym (simp bind_assoc)
-
-parts_of_head : IsField AreParts head head_at
-parts_of_head =
-    same_field AreParts head head_at (seen_at head_of head_parts) head_same
-    (seen_field head_of (λ h. (h.clocks, (h.view, (h.settled, h.offers))))
-    (λ x. IfSome x.0 IsClocks × (IsView x.1.0 × (IfSome x.1.1.0 IsSettled × AreOffers x.1.1.1)))
-    (λ x. optional clocks x.0 ++ (view x.1.0 ++
-    (optional settled x.1.1.0 ++ masked is_offered offer x.1.1.1))) head_parts (λ x. refl)
-    (λ h. refl)
-    (both_field (λ c. IfSome c IsClocks) (λ c. optional clocks c) (optional_at clocks_at)
+plain_field : IsField ArePlain plain plain_at
+plain_field =
+    both_field (λ c. IfSome c IsClocks) (λ c. optional clocks c) (optional_at clocks_at)
     (λ x. IsView x.0 × (IfSome x.1.0 IsSettled × AreOffers x.1.1))
     (λ x. view x.0 ++ (optional settled x.1.0 ++ masked is_offered offer x.1.1))
     (both_at view_at (both_at (optional_at settled_at) (masked_at no_offer offer_at)))
@@ -387,7 +374,33 @@ parts_of_head =
     (both_field (λ s. IfSome s IsSettled) (λ s. optional settled s) (optional_at settled_at)
     AreOffers (λ os. masked is_offered offer os) (masked_at no_offer offer_at)
     (optional_field IsSettled settled settled_at settled_field)
-    (masked_field IsOffer is_offered no_offer offer offer_at offers_masked offer_field)))))
+    (masked_field IsOffer is_offered no_offer offer offer_at offers_masked offer_field)))
+
+abbrev AreParts : Head → Type 0
+AreParts h = IsNumber h.number × ArePlain (h.clocks, (h.view, (h.settled, h.offers)))
+
+abbrev head_parts : List ℕ → Result ((ℕ × Parts) × List ℕ) WireFault
+head_parts = both_at short_at plain_at
+
+abbrev head_of : ℕ × Parts → Head
+head_of x = record {
+  number = x.0;
+  clocks = x.1.0;
+  view = x.1.1.0;
+  settled = x.1.1.1.0;
+  offers = x.1.1.1.1;
+}
+
+head_same : (bytes : List ℕ) → head_at bytes ≡ seen_at head_of head_parts bytes
+unfolding head_at
+head_same bytes = sym (simp bind_assoc)
+
+parts_of_head : IsField AreParts head head_at
+parts_of_head =
+    same_field AreParts head head_at (seen_at head_of head_parts) head_same
+    (seen_field head_of (λ h. (h.number, (h.clocks, (h.view, (h.settled, h.offers)))))
+    (λ x. IsNumber x.0 × ArePlain x.1) (λ x. short x.0 ++ plain x.1) head_parts (λ x. refl)
+    (λ h. refl) (both_field IsNumber short short_at ArePlain plain plain_at short_field plain_field))
 
 pub head_field : IsField IsHead head head_at
 head_field = record {
@@ -395,15 +408,16 @@ head_field = record {
       let t = parts_of_head.takes bytes h rest b e in (
         t.0,
         record {
-          clocks = t.1.0;
-          gone = t.1.1.0.0;
-          has = t.1.1.0.1;
-          settled = t.1.1.1.0;
-          offers = t.1.1.1.1;
+          number = t.1.0;
+          clocks = t.1.1.0;
+          gone = t.1.1.1.0.0;
+          has = t.1.1.1.0.1;
+          settled = t.1.1.1.1.0;
+          offers = t.1.1.1.1.1;
         },
       );
   again = λ h rest f.
-      parts_of_head.again h rest (f.clocks, ((f.gone, f.has), (f.settled, f.offers)));
+      parts_of_head.again h rest (f.number, (f.clocks, ((f.gone, f.has), (f.settled, f.offers))));
 }
 
 -- ---- marks

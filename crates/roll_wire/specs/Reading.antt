@@ -110,15 +110,13 @@ envelope_at bytes = do
 
 unfoldable pub clocks_at : List ℕ → Result (Clocks × List ℕ) WireFault
 clocks_at bytes = do
-  number ← short_at bytes
-  frame ← short_at number.1
+  frame ← short_at bytes
   heard_frame ← short_at frame.1
   clock ← short_at heard_frame.1
   heard_clock ← short_at clock.1
   held ← short_at heard_clock.1
   Ok (
     record {
-      number = number.0;
       frame = frame.0;
       heard_frame = heard_frame.0;
       clock = clock.0;
@@ -197,12 +195,14 @@ view_at bytes = do
 
 unfoldable pub head_at : List ℕ → Result (Head × List ℕ) WireFault
 head_at bytes = do
-  clocks ← optional_at clocks_at bytes
+  number ← short_at bytes
+  clocks ← optional_at clocks_at number.1
   view ← view_at clocks.1
   settled ← optional_at settled_at view.1
   offers ← masked_at no_offer offer_at settled.1
   Ok (
     record {
+      number = number.0;
       clocks = clocks.0;
       view = view.0;
       settled = settled.0;

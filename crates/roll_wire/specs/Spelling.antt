@@ -102,9 +102,8 @@ hello h =
 
 abbrev pub clocks : Clocks → List ℕ
 clocks c =
-    short c.number
-    ++ (short c.frame ++ (short c.heard_frame
-    ++ (short c.clock ++ (short c.heard_clock ++ short c.held))))
+    short c.frame
+    ++ (short c.heard_frame ++ (short c.clock ++ (short c.heard_clock ++ short c.held)))
 
 -- whether there are words of a player
 abbrev pub is_counted : ℕ → Bool
@@ -126,8 +125,9 @@ offer o = short o.first ++ byte (o.end - o.first)
 
 abbrev pub head : Head → List ℕ
 head h =
-    optional clocks h.clocks
-    ++ (view h.view ++ (optional settled h.settled ++ masked is_offered offer h.offers))
+    short h.number
+    ++ (optional clocks h.clocks
+    ++ (view h.view ++ (optional settled h.settled ++ masked is_offered offer h.offers)))
 
 -- the players of a newcomer and its ticket, or no players if nobody comes
 abbrev pub newcomer : Option Newcomer → List ℕ
@@ -256,9 +256,9 @@ IsHello h =
 
 abbrev pub IsClocks : Clocks → Type 0
 IsClocks c =
-    IsNumber c.number
-    × (IsNumber c.frame × (IsNumber c.heard_frame
-    × (IsNumber c.clock × (IsNumber c.heard_clock × IsNumber c.held))))
+    IsNumber c.frame
+    × (IsNumber c.heard_frame
+    × (IsNumber c.clock × (IsNumber c.heard_clock × IsNumber c.held)))
 
 abbrev pub IsSettled : Settled → Type 0
 IsSettled s = IsNumber s.frame × IsLong s.digest
@@ -268,6 +268,7 @@ IsOffer o = IsNumber o.end × ((o.first ≤ o.end) × IsByte (o.end - o.first))
 
 -- a head that has a spelling
 pub record IsHead (h : Head) : Type 0 where
+  pub number : IsNumber h.number
   pub clocks : IfSome h.clocks IsClocks
   pub gone : length h.view.gone ≡ MACHINE_LIMIT
   pub has : (length h.view.has ≡ PLAYER_LIMIT) × AllByRecursion IsNumber h.view.has

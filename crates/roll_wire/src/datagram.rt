@@ -38,8 +38,6 @@ pub struct Hello {
 /// How far the sender is, and when it sent.
 #[derive(Clone, Copy, Debug)]
 pub struct Clocks {
-    /// How many datagrams the sender had sent to this receiver before.
-    pub number: u32,
     /// The sender's frame.
     pub frame: u32,
     /// Where the sender thinks that the receiver is: its frame in the last clocks that the sender heard of it, and as
@@ -95,6 +93,8 @@ pub struct Marked {
 /// What a turn tells, but for its words and their marks.
 #[derive(Clone, Copy, Debug)]
 pub struct Head {
+    /// How many hellos and plays the sender had sent to this receiver before.
+    pub number: u32,
     /// How far the sender is, and when it sent, if that is told.
     pub clocks: Option<Clocks>,
     /// Whom the sender regards as gone, and how many words of each player it has.

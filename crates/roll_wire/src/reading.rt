@@ -131,14 +131,12 @@ fn envelope_of(bytes: &[u8]) -> Result<(Envelope, &[u8]), WireFault>
 fn clocks_of(bytes: &[u8]) -> Result<(Clocks, &[u8]), WireFault>
     ensures { Gives (λ x. (x.0, x.1.now)) result (clocks_at bytes.now) }
 {
-    let (number, rest) = short_of(bytes)?;
-    let (frame, rest) = short_of(rest)?;
+    let (frame, rest) = short_of(bytes)?;
     let (heard_frame, rest) = short_of(rest)?;
     let (clock, rest) = short_of(rest)?;
     let (heard_clock, rest) = short_of(rest)?;
     let (held, rest) = short_of(rest)?;
     let clocks = Clocks {
-        number,
         frame,
         heard_frame,
         clock,
@@ -351,11 +349,13 @@ fn view_of(bytes: &[u8]) -> Result<(View, &[u8]), WireFault>
 fn head_of(bytes: &[u8]) -> Result<(Head, &[u8]), WireFault>
     ensures { Gives (λ x. (x.0, x.1.now)) result (head_at bytes.now) }
 {
-    let (clocks, rest) = optional_clocks_of(bytes)?;
+    let (number, rest) = short_of(bytes)?;
+    let (clocks, rest) = optional_clocks_of(rest)?;
     let (view, rest) = view_of(rest)?;
     let (settled, rest) = optional_settled_of(rest)?;
     let (offers, rest) = offers_of(rest)?;
     let head = Head {
+        number,
         clocks,
         view,
         settled,

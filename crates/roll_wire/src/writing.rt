@@ -110,12 +110,11 @@ fn put_envelope(out: &mut Bytes, e: &Envelope)
 }
 
 fn put_clocks(out: &mut Bytes, c: &Clocks)
-    requires { length out.old.items + 30 ≤ DATAGRAM_LIMIT }
+    requires { length out.old.items + 25 ≤ DATAGRAM_LIMIT }
     ensures items { out.new.items ≡ out.old.items ++ clocks c.now }
-    ensures len { length out.new.items ≤ length out.old.items + 30 }
+    ensures len { length out.new.items ≤ length out.old.items + 25 }
     ensures fits { IsClocks c.now }
 {
-    put_short(out, c.number);
     put_short(out, c.frame);
     put_short(out, c.heard_frame);
     put_short(out, c.clock);
@@ -124,9 +123,9 @@ fn put_clocks(out: &mut Bytes, c: &Clocks)
 }
 
 fn put_optional_clocks(out: &mut Bytes, c: &Option<Clocks>)
-    requires { length out.old.items + 31 ≤ DATAGRAM_LIMIT }
+    requires { length out.old.items + 26 ≤ DATAGRAM_LIMIT }
     ensures items { out.new.items ≡ out.old.items ++ optional clocks c.now }
-    ensures len { length out.new.items ≤ length out.old.items + 31 }
+    ensures len { length out.new.items ≤ length out.old.items + 26 }
     ensures fits { IfSome c.now IsClocks }
 {
     match c {
@@ -287,6 +286,7 @@ fn put_head(out: &mut Bytes, h: &Head)
     ensures len { length out.new.items ≤ length out.old.items + 136 }
     ensures fits { IsHead h.now }
 {
+    put_short(out, h.number);
     put_optional_clocks(out, &h.clocks);
     put_view(out, &h.view);
     put_optional_settled(out, &h.settled);

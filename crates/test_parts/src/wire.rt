@@ -8,52 +8,52 @@ use roll_wire::{
 use std::test::Fail;
 
 const HELLO: [u8; 53] = [
-    0x46, 0x5a, 0x47, 0x33, 0x11, 0x22, 0x33, 0x44, 0x55, 0x66, 0x77, 0x88, 0x01, 0x00, 0x02, 0x01,
+    0x46, 0x5a, 0x47, 0x34, 0x11, 0x22, 0x33, 0x44, 0x55, 0x66, 0x77, 0x88, 0x01, 0x00, 0x02, 0x01,
     0x00, 0x01, 0xff, 0xff, 0xff, 0xff, 0xff, 0xff, 0x01, 0x23, 0x45, 0x67, 0x89, 0xab, 0xcd, 0xef,
     0x11, 0x12, 0x13, 0x14, 0x15, 0x16, 0x17, 0x18, 0x01, 0x02, 0x03, 0x04, 0x05, 0x06, 0x07, 0x08,
     0x00, 0x00, 0x13, 0x88, 0x00,
 ];
 
 const PLAY: [u8; 51] = [
-    0x46, 0x5a, 0x47, 0x33, 0x11, 0x22, 0x33, 0x44, 0x55, 0x66, 0x77, 0x88, 0x01, 0x01, 0x01, 0x82,
+    0x46, 0x5a, 0x47, 0x34, 0x11, 0x22, 0x33, 0x44, 0x55, 0x66, 0x77, 0x88, 0x01, 0x01, 0x82, 0x01,
     0x01, 0x78, 0x76, 0xf8, 0xbd, 0xd8, 0xa8, 0x01, 0xc8, 0x9d, 0x98, 0x28, 0x10, 0x00, 0x03, 0x77,
     0x7b, 0x01, 0x6e, 0xfe, 0xdc, 0xba, 0x98, 0x76, 0x54, 0x32, 0x10, 0x02, 0x75, 0x06, 0x00, 0x02,
     0x05, 0x02, 0x07,
 ];
 
-const HELD: [u8; 33] = [
-    0x46, 0x5a, 0x47, 0x33, 0x11, 0x22, 0x33, 0x44, 0x55, 0x66, 0x77, 0x88, 0x01, 0x01, 0x00, 0x00,
-    0x03, 0x9f, 0x9c, 0x01, 0xa3, 0x9c, 0x01, 0x00, 0x02, 0x9d, 0x9c, 0x01, 0x06, 0x00, 0x00, 0x05,
-    0x05,
+const HELD: [u8; 36] = [
+    0x46, 0x5a, 0x47, 0x34, 0x11, 0x22, 0x33, 0x44, 0x55, 0x66, 0x77, 0x88, 0x01, 0x01, 0xaa, 0x9c,
+    0x01, 0x00, 0x00, 0x03, 0x9f, 0x9c, 0x01, 0xa3, 0x9c, 0x01, 0x00, 0x02, 0x9d, 0x9c, 0x01, 0x06,
+    0x00, 0x00, 0x05, 0x05,
 ];
 
-const MARKED: [u8; 41] = [
-    0x46, 0x5a, 0x47, 0x33, 0x11, 0x22, 0x33, 0x44, 0x55, 0x66, 0x77, 0x88, 0x01, 0x01, 0x00, 0x00,
-    0x03, 0x77, 0x7b, 0x00, 0x02, 0x75, 0x06, 0x02, 0x79, 0x04, 0x31, 0x32, 0x33, 0x34, 0x35, 0x36,
-    0x37, 0x38, 0x02, 0x03, 0x00, 0x02, 0x05, 0x02, 0x07,
+const MARKED: [u8; 43] = [
+    0x46, 0x5a, 0x47, 0x34, 0x11, 0x22, 0x33, 0x44, 0x55, 0x66, 0x77, 0x88, 0x01, 0x01, 0x82, 0x01,
+    0x00, 0x00, 0x03, 0x77, 0x7b, 0x00, 0x02, 0x75, 0x06, 0x02, 0x79, 0x04, 0x31, 0x32, 0x33, 0x34,
+    0x35, 0x36, 0x37, 0x38, 0x02, 0x03, 0x00, 0x02, 0x05, 0x02, 0x07,
 ];
 
 const BYE: [u8; 14] = [
-    0x46, 0x5a, 0x47, 0x33, 0x11, 0x22, 0x33, 0x44, 0x55, 0x66, 0x77, 0x88, 0x01, 0x02,
+    0x46, 0x5a, 0x47, 0x34, 0x11, 0x22, 0x33, 0x44, 0x55, 0x66, 0x77, 0x88, 0x01, 0x02,
 ];
 
 const LINE_HELLO: [u8; 53] = [
-    0x46, 0x5a, 0x47, 0x33, 0x99, 0xaa, 0xbb, 0xcc, 0xdd, 0xee, 0xff, 0x00, 0xff, 0x00, 0x02, 0x01,
+    0x46, 0x5a, 0x47, 0x34, 0x99, 0xaa, 0xbb, 0xcc, 0xdd, 0xee, 0xff, 0x00, 0xff, 0x00, 0x02, 0x01,
     0x00, 0x01, 0xff, 0xff, 0xff, 0xff, 0xff, 0xff, 0x01, 0x23, 0x45, 0x67, 0x89, 0xab, 0xcd, 0xef,
     0xd1, 0xd2, 0xd3, 0xd4, 0xd5, 0xd6, 0xd7, 0xd8, 0xc1, 0xc2, 0xc3, 0xc4, 0xc5, 0xc6, 0xc7, 0xc8,
     0x00, 0x00, 0x0b, 0xb8, 0x00,
 ];
 
 const ROWS: [u8; 51] = [
-    0x46, 0x5a, 0x47, 0x33, 0x99, 0xaa, 0xbb, 0xcc, 0xdd, 0xee, 0xff, 0x00, 0x00, 0x01, 0x01, 0x80,
-    0x05, 0xdb, 0x04, 0xdb, 0x04, 0xe8, 0xdd, 0x9b, 0xae, 0x0c, 0xd8, 0xfd, 0xdb, 0xae, 0x0d, 0x08,
+    0x46, 0x5a, 0x47, 0x34, 0x99, 0xaa, 0xbb, 0xcc, 0xdd, 0xee, 0xff, 0x00, 0x00, 0x01, 0x80, 0x05,
+    0x01, 0xdb, 0x04, 0xdb, 0x04, 0xe8, 0xdd, 0x9b, 0xae, 0x0c, 0xd8, 0xfd, 0xdb, 0xae, 0x0d, 0x08,
     0x00, 0x03, 0xdb, 0x04, 0xd9, 0x04, 0x00, 0x03, 0xd8, 0x04, 0x03, 0x00, 0x01, 0x00, 0x00, 0x05,
     0x01, 0x09, 0x01,
 ];
 
-const ANSWER: [u8; 24] = [
-    0x46, 0x5a, 0x47, 0x33, 0x99, 0xaa, 0xbb, 0xcc, 0xdd, 0xee, 0xff, 0x00, 0xff, 0x01, 0x00, 0x00,
-    0x03, 0xdb, 0x04, 0xdb, 0x04, 0x00, 0x00, 0x00,
+const ANSWER: [u8; 26] = [
+    0x46, 0x5a, 0x47, 0x34, 0x99, 0xaa, 0xbb, 0xcc, 0xdd, 0xee, 0xff, 0x00, 0xff, 0x01, 0x81, 0x05,
+    0x00, 0x00, 0x03, 0xdb, 0x04, 0xdb, 0x04, 0x00, 0x00, 0x00,
 ];
 
 const NO_OFFER: Offer = Offer { first: 0, end: 0 };
@@ -83,10 +83,11 @@ fn words_of(values: &[u32]) -> Words {
 }
 
 /// A turn whose words are those of player 1, without clocks and settled state.
-fn plain(has: [u32; 2], first: u32, end: u32, words: Words) -> Body {
+fn plain(number: u32, has: [u32; 2], first: u32, end: u32, words: Words) -> Body {
     let mut offers = [NO_OFFER; PLAYER_LIMIT];
     offers[1] = Offer { first, end };
     let head = Head {
+        number,
         clocks: None,
         view: View {
             gone: [false; 8],
@@ -105,7 +106,8 @@ fn plain(has: [u32; 2], first: u32, end: u32, words: Words) -> Body {
 /// A turn of words of player 1 from frame 117 on, of which the one at a frame has a mark: somebody comes who is to own these players,
 /// and player 1 gets a delay of 3 frames.
 fn marked_at(frame: u32, players: [bool; PLAYER_LIMIT]) -> Body {
-    let Body::Play(mut play) = plain([119, 123], 117, 123, words_of(&[0, 0, 5, 5, 5, 7])) else {
+    let Body::Play(mut play) = plain(130, [119, 123], 117, 123, words_of(&[0, 0, 5, 5, 5, 7]))
+    else {
         return Body::Bye;
     };
     let mut delays = [None; PLAYER_LIMIT];
@@ -135,8 +137,8 @@ fn full() -> Body {
         end: 123,
     };
     let head = Head {
+        number: 130,
         clocks: Some(Clocks {
-            number: 130,
             frame: 120,
             heard_frame: 118,
             clock: 0x1516_1718 + 2_016,
@@ -174,12 +176,14 @@ fn of_line(sender: u8, body: Body) -> Datagram {
 
 /// A turn by a line: so many rows are had of each player, and these are told.
 fn line_turn(
+    number: u32,
     clocks: Option<Clocks>,
     has: [u32; 2],
     offers: [Offer; PLAYER_LIMIT],
     words: Words,
 ) -> Body {
     let head = Head {
+        number,
         clocks,
         view: View {
             gone: [false; 8],
@@ -204,14 +208,19 @@ fn rows() -> Body {
     };
     offers[1] = Offer { first: 0, end: 1 };
     let clocks = Clocks {
-        number: 640,
         frame: 603,
         heard_frame: 603,
         clock: 0xc5c6_c7c8 + 10_016,
         heard_clock: 0xd5d6_d7d8 + 9_984,
         held: 8,
     };
-    line_turn(Some(clocks), [603, 601], offers, words_of(&[5, 5, 9, 9]))
+    line_turn(
+        640,
+        Some(clocks),
+        [603, 601],
+        offers,
+        words_of(&[5, 5, 9, 9]),
+    )
 }
 
 /// As many words, each of them of 32 bits, and another one than the one before.
@@ -234,8 +243,8 @@ fn greatest() -> Body {
     let mut offers = [offer; PLAYER_LIMIT];
     offers[7].end = 4_000_000_021;
     let head = Head {
+        number: u32::MAX,
         clocks: Some(Clocks {
-            number: u32::MAX,
             frame: u32::MAX,
             heard_frame: u32::MAX,
             clock: u32::MAX,
@@ -294,7 +303,7 @@ fn the_examples(rt: HostRuntime) -> Result<(), Fail> {
         patience: 5_000,
         abilities: 0,
     };
-    let held = plain([19_999, 20_003], 19_997, 20_003, words_of(&[5; 6]));
+    let held = plain(20_010, [19_999, 20_003], 19_997, 20_003, words_of(&[5; 6]));
     assert!(rt; is_text(&datagram(Body::Hello(hello)), HELLO.as_slice()));
     assert!(rt; is_text(&datagram(full()), PLAY.as_slice()));
     assert!(rt; is_text(&datagram(held), HELD.as_slice()));
@@ -315,7 +324,13 @@ fn the_examples_of_a_line(rt: HostRuntime) -> Result<(), Fail> {
         patience: 3_000,
         abilities: 0,
     };
-    let answer = line_turn(None, [603, 603], [NO_OFFER; PLAYER_LIMIT], words_of(&[]));
+    let answer = line_turn(
+        641,
+        None,
+        [603, 603],
+        [NO_OFFER; PLAYER_LIMIT],
+        words_of(&[]),
+    );
     assert!(rt; is_text(&of_line(255, Body::Hello(hello)), LINE_HELLO.as_slice()));
     assert!(rt; is_text(&of_line(0, rows()), ROWS.as_slice()));
     assert!(rt; is_text(&of_line(255, answer), ANSWER.as_slice()));
@@ -334,10 +349,10 @@ fn the_greatest(rt: HostRuntime) -> Result<(), Fail> {
 
 #[test]
 fn has_no_text(rt: HostRuntime) -> Result<(), Fail> {
-    assert!(rt; encode(&datagram(plain([0, 0], 0, 140, changing(140)))).is_some());
-    assert!(rt; encode(&datagram(plain([0, 0], 0, 141, changing(140)))).is_none());
-    assert!(rt; encode(&datagram(plain([0, 0], 0, 396, changing(140)))).is_none());
-    assert!(rt; encode(&datagram(plain([0, 0], 1, 0, changing(0)))).is_none());
+    assert!(rt; encode(&datagram(plain(0, [0, 0], 0, 140, changing(140)))).is_some());
+    assert!(rt; encode(&datagram(plain(0, [0, 0], 0, 141, changing(140)))).is_none());
+    assert!(rt; encode(&datagram(plain(0, [0, 0], 0, 396, changing(140)))).is_none());
+    assert!(rt; encode(&datagram(plain(0, [0, 0], 1, 0, changing(0)))).is_none());
     assert!(rt; encode(&datagram(marked_at(122, THIRD))).is_some());
     assert!(rt; encode(&datagram(marked_at(123, THIRD))).is_none());
     assert!(rt; encode(&datagram(marked_at(121, [false; PLAYER_LIMIT]))).is_none());
@@ -361,9 +376,9 @@ fn refuses(rt: HostRuntime) -> Result<(), Fail> {
     assert_eq!(rt; fault_of(BYE, 3, 0x32), Some(WireFault::Magic));
     assert_eq!(rt; fault_of(BYE, 13, 3), Some(WireFault::Kind));
     assert_eq!(rt; decode(&HELLO[..51]).err(), Some(WireFault::Short));
-    assert_eq!(rt; fault_of(PLAY, 14, 2), Some(WireFault::Flag));
+    assert_eq!(rt; fault_of(PLAY, 16, 2), Some(WireFault::Flag));
     assert_eq!(rt; fault_of(PLAY, 33, 2), Some(WireFault::Flag));
-    assert_eq!(rt; fault_of(PLAY, 16, 0), Some(WireFault::Long));
+    assert_eq!(rt; fault_of(PLAY, 15, 0), Some(WireFault::Long));
     assert_eq!(rt; fault_of(PLAY, 31, 0), Some(WireFault::Zero));
     assert_eq!(rt; fault_of(PLAY, 45, 140), Some(WireFault::Short));
     assert_eq!(rt; fault_of(PLAY, 45, 141), Some(WireFault::TooMany));
@@ -380,10 +395,10 @@ fn refuses_marks(rt: HostRuntime) -> Result<(), Fail> {
     assert_eq!(rt; decode(&PLAY[..46]).err(), Some(WireFault::Short));
     assert_eq!(rt; fault_of(PLAY, 46, 128), Some(WireFault::Short));
     assert_eq!(rt; fault_of(many, 46, 1), Some(WireFault::TooMany));
-    assert_eq!(rt; decode(&MARKED[..37]).err(), Some(WireFault::Short));
-    assert_eq!(rt; fault_of(MARKED, 24, 116), Some(WireFault::Misplaced));
-    assert_eq!(rt; fault_of(MARKED, 24, 117), None);
-    assert_eq!(rt; fault_of(MARKED, 24, 123), Some(WireFault::Misplaced));
+    assert_eq!(rt; decode(&MARKED[..39]).err(), Some(WireFault::Short));
+    assert_eq!(rt; fault_of(MARKED, 26, 116), Some(WireFault::Misplaced));
+    assert_eq!(rt; fault_of(MARKED, 26, 117), None);
+    assert_eq!(rt; fault_of(MARKED, 26, 123), Some(WireFault::Misplaced));
     Ok(())
 }
 
@@ -394,7 +409,7 @@ fn who_takes_no_marks_refuses_them(rt: HostRuntime) -> Result<(), Fail> {
         Some(WireFault::Mark)
     );
     assert_eq!(rt;
-        decode_unmarked(&MARKED[..40]).err(),
+        decode_unmarked(&MARKED[..42]).err(),
         Some(WireFault::Short)
     );
     assert!(rt; decode_unmarked(PLAY.as_slice()).is_ok());
@@ -423,13 +438,13 @@ fn refuses_offers(rt: HostRuntime) -> Result<(), Fail> {
     nothing[44] = 0;
     nothing[45] = 0;
     let mut last = HELD;
-    for place in 25..29 {
+    for place in 28..32 {
         last[place] = 0xff;
     }
-    last[29] = 0x0f;
-    last[30] = 1;
+    last[32] = 0x0f;
+    last[33] = 1;
     let mut wide = last;
-    wide[29] = 0x10;
+    wide[32] = 0x10;
     assert_eq!(rt; decode(nothing.as_slice()).err(), Some(WireFault::Zero));
     assert_eq!(rt; decode(last.as_slice()).err(), Some(WireFault::TooFar));
     assert_eq!(rt; decode(wide.as_slice()).err(), Some(WireFault::Long));

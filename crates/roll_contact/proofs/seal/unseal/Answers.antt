@@ -1,7 +1,7 @@
 use Rattle.std.proofs.Common.{◌≡◌, ◌≤◌, List, ℕ, Some, length, sym, ap, ◌∙◌, arith}
 use Rattle.std.specs.Str.{bytes_eq}
 use Rattle.roll_wire.specs.declared.limits.TheConstants.{DATAGRAM_LIMIT}
-use Rattle.roll_contact.specs.Seals.{field, named, tag, unsealed, with_field}
+use Rattle.roll_contact.specs.Seals.{field, named, tag, with_field}
 use Rattle.roll_contact.specs.declared.key.Key.{Key}
 use Rattle.roll_contact.proofs.Seals.{another, the_same}
 use Rattle.roll_contact.proofs.seal.unseal.Goals as goal

@@ -9,9 +9,10 @@ use Rattle.roll_wire.proofs.Wholes.{unmarked_whole}
 use Rattle.roll_viewer.proofs.Padding.{filled_up, one_more}
 use Rattle.roll_viewer.proofs.telling.acknowledged.Goals as goal
 
-abbrev said_of : Option Clocks → List ℕ → List ℕ → Turn
-said_of clocks has words = record {
+abbrev said_of : (number : ℕ) → Option Clocks → List ℕ → List ℕ → Turn
+said_of number clocks has words = record {
   head = record {
+    number = number;
     clocks = clocks;
     view = record { gone = replicate MACHINE_LIMIT false; has = has };
     settled = None;
@@ -31,8 +32,8 @@ returns-clause-said c =
       | inl here ↦ c.loop-place.invariant.done k (omega (arith, here, c.loop-place-test.false)) ∙ sym (get_or-replicate players k rows 0 here)
       | inr past ↦ c.loop-place.invariant.left k (omega (arith, past)) ∙ sym (get_or_past (replicate players rows) k 0 (omega (arith, past, length-replicate players rows)))
     ] in
-    ap (λ words. said_of c.args.clocks c.loop-place.has words) c.new.ensures
-    ∙ ap (λ has. said_of c.args.clocks has []) (filled_up 0 (replicate players rows) c.loop-place.has c.loop-place.invariant.all same)
+    ap (λ words. said_of c.args.number c.args.clocks c.loop-place.has words) c.new.ensures
+    ∙ ap (λ has. said_of c.args.number c.args.clocks has []) (filled_up 0 (replicate players rows) c.loop-place.has c.loop-place.invariant.all same)
 
 pub loop-place-preserved : goal.loop-place-preserved
 loop-place-preserved c =

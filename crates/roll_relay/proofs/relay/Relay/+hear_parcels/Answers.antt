@@ -4,7 +4,7 @@ use Rattle.roll_relay.proofs.relay.Relay.+hear_parcels.Goals as goal
 
 pub returns-in-Some-clause-heard : goal.returns-in-Some-clause-heard
 returns-in-Some-clause-heard g n c =
-    parcels_heard g.S.Networked.step c.args.now
+    parcels_heard g.S.Networked.step c.args.now c.args.sender
     (record { beside = record { session = g.S.Networked.seen c.args.session.now; peer = c.args.peer.now }; carrying = c.args.self.now })
     (record {
       beside = record { session = g.S.Networked.seen c.hear_parcel.new.session; peer = c.hear_parcel.new.peer };
