@@ -327,9 +327,10 @@ module _ (match : Match) (peers : PeerWorld) (m : Mirrors match peers) where
             absurd (false≢true (sym (le-ltb many_b many_b (omega arith)) ∙ sym (alike many_b (omega (arith, more, fits_a)))
             ∙ lt-ltb many_b many_a more))
 
-    same_rows : (f : ℕ) → f ≤ settled a.session.core → f ≤ settled b.session.core
+    -- rows before a frame that are known at both
+    known_rows : (f : ℕ) → ((t : ℕ) → t < f → AllKnown t a.session.core.players) → ((t : ℕ) → t < f → AllKnown t b.session.core.players)
         → timeline a.session.core.players f ≡ timeline b.session.core.players f
-    same_rows f low_a low_b =
+    known_rows f known_a known_b =
         same_time f a.session.core.players b.session.core.players same_many (λ t l. at t l)
       where
         at : (t : ℕ) → t < f → AreSameAt t a.session.core.players b.session.core.players
@@ -337,8 +338,13 @@ module _ (match : Match) (peers : PeerWorld) (m : Mirrors match peers) where
             same_cell t place x y
             (omega (arith, slice_get_within a.session.core.players place x e, players_fit one a.session is_a.follows))
             (player_is a place x e) (player_is b place y g)
-            (known_of t a.session.core.players place x (all_known one a.session is_a.follows f t low_a l) e)
-            (known_of t b.session.core.players place y (all_known other b.session is_b.follows f t low_b l) g)
+            (known_of t a.session.core.players place x (known_a t l) e)
+            (known_of t b.session.core.players place y (known_b t l) g)
+
+    same_rows : (f : ℕ) → f ≤ settled a.session.core → f ≤ settled b.session.core
+        → timeline a.session.core.players f ≡ timeline b.session.core.players f
+    same_rows f low_a low_b =
+        known_rows f (λ t l. all_known one a.session is_a.follows f t low_a l) (λ t l. all_known other b.session is_b.follows f t low_b l)
 
 -- states are alike where the rows are
 are_one : (one other : Step) (a b : Beside) (f : ℕ)

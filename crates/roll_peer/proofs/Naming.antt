@@ -11,8 +11,6 @@ use Rattle.roll_contact.specs.declared.contact.Stage.TheVariants.{Silent, Greete
 use Rattle.roll_contact.specs.declared.terms.Field.{Field}
 use Rattle.roll_frame.specs.declared.refusal.Refusal.{Refusal}
 use Rattle.roll_mesh.proofs.Changes.{none_some}
-use Rattle.roll_mesh.specs.declared.heard.Heard.{Heard}
-use Rattle.roll_mesh.specs.declared.heard.Heard.TheVariants.{Dropped as WasDropped, Taken as WasTaken}
 use Rattle.roll_mesh.specs.declared.limits.TheConstants.{PLAYER_LIMIT}
 use Rattle.roll_session.specs.Seen.{Seen, Step}
 use Rattle.roll_wire.specs.Spelling.{Content, Greets, Leaves, Plays}
@@ -20,7 +18,7 @@ use Rattle.roll_wire.specs.declared.datagram.Settled.{Settled}
 use Rattle.roll_peer.specs.Events.{pushed}
 use Rattle.roll_peer.specs.Following.{heard_beside}
 use Rattle.roll_peer.specs.Laws.{AreNamed, EventsNameMachines, IsNamed}
-use Rattle.roll_peer.specs.Notices.{after_heard, came, desync, differs, dropped, found_out, mismatched, newly, only_if, player_left, refusing, restarting, resumed, told, told_of}
+use Rattle.roll_peer.specs.Notices.{after_heard, came, desync, differs, found_out, mismatched, newly, only_if, player_left, refusing, restarting, resumed, told, told_of}
 use Rattle.roll_peer.specs.Digests.{digest_at}
 use Rattle.roll_peer.specs.Paces.{wait_of}
 use Rattle.roll_peer.specs.Peered.{contact_at, Peered}
@@ -31,7 +29,7 @@ use Rattle.roll_peer.specs.Turning.{farewell_until, hushed_until, lead_in, looke
 use Rattle.roll_peer.specs.Waiting.{Waiting}
 use Rattle.roll_peer.specs.declared.digests.Digests.{Digests}
 use Rattle.roll_peer.specs.declared.event.PeerEvent.{PeerEvent}
-use Rattle.roll_peer.specs.declared.event.PeerEvent.TheVariants.{TimeSync}
+use Rattle.roll_peer.specs.declared.event.PeerEvent.TheVariants.{Dropped, TimeSync}
 use Rattle.roll_peer.specs.declared.event.TheConstants.{EVENT_LIMIT}
 use Rattle.roll_peer.specs.declared.received.Ignored.{Ignored}
 use Rattle.roll_peer.specs.declared.received.Ignored.TheVariants.{InvalidMachine, NotSealed}
@@ -83,13 +81,6 @@ module _ (n : ℕ) where
     mismatch_named None = tt
     mismatch_named (Some field) = l
 
-    restart_named : (before after : Contact) → IfSome (restarting m before after) (IsNamed n)
-    restart_named before after = go (before.restarted == after.restarted) refl
-      where
-        go : (b : Bool) → (before.restarted == after.restarted) ≡ b → IfSome (restarting m before after) (IsNamed n)
-        go true e = rw e tt
-        go false e = rw e l
-
     heard_named : (before after : Contact) (waiting : Waiting) → AreNamed n waiting
         → AreNamed n (after_heard m before after waiting)
     unfolding after_heard
@@ -102,16 +93,12 @@ module _ (n : ℕ) where
         (only_named (before.interrupted && not after.interrupted) _ l))
         (came_named before.stage after.stage))
         (mismatch_named (newly before.differs after.differs)))
-        (restart_named before after))
-        (only_named (after.is_refusing && not before.is_refusing) _ l)
+        (only_named _ _ l))
+        (only_named _ _ l)
 
     desync_named : (digests : Digests) (settled : Option Settled) → IfSome (desync digests m settled) (IsNamed n)
     desync_named digests None = tt
     desync_named digests (Some settled) = only_named (differs settled.digest (digest_at digests settled.frame)) _ l
-
-  dropped_named : (heard : Heard) → IfSome (dropped heard) (IsNamed n)
-  dropped_named WasDropped = tt
-  dropped_named WasTaken = tt
 
   -- ---- what is heard
 
@@ -179,11 +166,11 @@ module _ (n : ℕ) where
         subst (λ (p : Peered). AreNamed n p.waiting) (sym hears.2) (heard_named (sender_of bytes) l _ _ old.waiting h)
     hearing_named step before after new (Plays t) (PlayHeard from taken) h l hears =
         subst (λ (p : Peered). AreNamed n p.waiting) (sym hears.1.rest)
-        (told_named _ (dropped taken.heard)
+        (told_named _ _
         (told_named _ (desync old.digests (sender_of bytes) t.head.settled)
         (heard_named (sender_of bytes) l _ _ old.waiting h)
         (desync_named (sender_of bytes) l old.digests t.head.settled))
-        (dropped_named taken.heard))
+        (only_named _ Dropped tt))
     hearing_named step before after new Leaves (ByeHeard from) h l hears =
         subst (λ (p : Peered). AreNamed n p.waiting) (sym hears.2) h
     hearing_named step before after new (Greets hello) (PlayHeard from taken) h l hears = absurd hears
@@ -291,7 +278,7 @@ module _ (n : ℕ) where
       since_named : (at : Option ℕ) → AreNamed n (cut_off_since now at
           (record peer { cut_off = record peer.cut_off { hears_most = hears_most peer now } })).waiting
       since_named None = push_named peer.waiting _ h tt
-      since_named (Some at) = either _ _ _ (push_named peer.waiting _ h tt) h
+      since_named (Some at) = told_named peer.waiting _ h (only_named _ Dropped tt)
 
   looked_named : (peer : Peered) (now : ℕ) → AreNamed n peer.waiting
       → AreNamed n (looked_after now n peer).waiting

@@ -39,7 +39,7 @@ most_like now peer = either_like _ peer _ _ (since_like peer.cut_off.since) (lik
     since_like : (at : Option ℕ) → AreLike peer (cut_off_since now at
         (record peer { cut_off = record peer.cut_off { hears_most = hears_most peer now } }))
     since_like None = like peer
-    since_like (Some at) = either_like _ peer _ _ (like peer) (like peer)
+    since_like (Some at) = like peer
 
 pub begun_like : (peer : Peered) → AreLike peer (begun peer)
 begun_like peer = like_as peer _ (begun peer) (begun_is peer) (either_like _ peer _ _ (like peer) (like peer))

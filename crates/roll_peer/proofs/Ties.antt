@@ -68,7 +68,7 @@ module _ (s : Seen) where
     where
       since_tied : (now : ℕ) (at : Option ℕ) (p : Peered) → IsTiedTo p → IsTiedTo (cut_off_since now at p)
       since_tied now None p h = h
-      since_tied now (Some at) p h = either _ _ _ h h
+      since_tied now (Some at) p h = h
 
   moved_tied : (frame : ℕ) (peer : Peered) → IsTiedTo peer → IsTiedTo (moved_to frame peer)
   moved_tied frame peer h =

@@ -6,6 +6,7 @@ use Rattle.roll_contact.specs.Clocks.{since}
 use Rattle.roll_contact.specs.Contacts.{is_silent, unanswered_for}
 use Rattle.roll_mesh.specs.Machines.{is_in}
 use Rattle.roll_peer.specs.Events.{pushed}
+use Rattle.roll_peer.specs.Notices.{only_if, told}
 use Rattle.roll_peer.specs.Peered.{contact_at, Peered}
 use Rattle.roll_peer.specs.declared.event.PeerEvent.TheVariants.{CutOff as IsCutOff, Dropped}
 
@@ -54,6 +55,13 @@ first_silent peer now =
 abbrev pub is_cut_off : Peered → (now : ℕ) → Bool
 is_cut_off peer now = peer.running && (is_some (first_silent peer now) && not (hears_most peer now))
 
+-- the match is over here, if it is by this or was before; that is told once
+abbrev pub over_if : Bool → Peered → Peered
+over_if is_over peer = record peer {
+  cut_off = record peer.cut_off { is_over = peer.cut_off.is_over || is_over };
+  waiting = told peer.waiting (only_if (is_over && not peer.cut_off.is_over) Dropped);
+}
+
 -- it is cut off at a moment: that is told as it begins, and that the match is over here once it has lasted as long again
 abbrev pub cut_off_since : (now : ℕ) → Option ℕ → Peered → Peered
 cut_off_since now None peer = record peer {
@@ -61,12 +69,7 @@ cut_off_since now None peer = record peer {
   waiting = pushed peer.waiting (IsCutOff peer.settings.silent_after);
 }
 cut_off_since now (Some at) peer =
-    if not peer.cut_off.is_over && nat_lt peer.settings.silent_after (since now at)
-    then record peer {
-      cut_off = record peer.cut_off { is_over = true };
-      waiting = pushed peer.waiting Dropped;
-    }
-    else peer
+    over_if (nat_lt peer.settings.silent_after (since now at)) peer
 
 -- whether it is cut off is looked at
 abbrev pub cut_off_noted : (now : ℕ) → Peered → Peered

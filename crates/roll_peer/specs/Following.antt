@@ -57,7 +57,7 @@ pub record IsFollowedAs (s : Seen) (settings : MatchSettings) (old : Peered) (se
   pub contacts : peer.contacts ≡ contacts_next old seating
   pub stalls : peer.stalls ≡ replicate MACHINE_LIMIT first_stall
   pub running : peer.running ≡ old.running
-  pub waiting : peer.waiting ≡ record { events = []; lost = 0 }
+  pub waiting : peer.waiting ≡ old.waiting
   pub known_gone : peer.known_gone ≡ known_next old seating
   pub digests : peer.digests ≡ no_digests
   pub pace : peer.pace ≡ no_pace

@@ -1,8 +1,6 @@
 -- What a peer tells its program, and when.
-use Rattle.std.specs.Prelude.{ℕ, zero, suc, ◌+◌, ◌-◌, List, Bool, false, not, ◌&&◌, ◌==◌, Option, Some, None, if◌then◌else◌, slice_index_or}
+use Rattle.std.specs.Prelude.{ℕ, zero, suc, ◌+◌, ◌-◌, List, Bool, false, not, ◌&&◌, ◌==◌, nat_lt, Option, Some, None, if◌then◌else◌, slice_index_or}
 use Rattle.roll_mesh.specs.Machines.{is_in}
-use Rattle.roll_mesh.specs.declared.heard.Heard.{Heard}
-use Rattle.roll_mesh.specs.declared.heard.Heard.TheVariants.{Dropped as WasDropped, Taken as WasTaken}
 use Rattle.roll_wire.specs.declared.datagram.Settled.{Settled}
 use Rattle.roll_contact.specs.Contacts.{is_hushed, unanswered_for}
 use Rattle.roll_peer.specs.Digests.{digest_at}
@@ -15,7 +13,7 @@ use Rattle.roll_contact.specs.declared.terms.Field.{Field}
 use Rattle.roll_contact.specs.declared.terms.Field.TheVariants.{Machines, Owners, Settings, Words}
 use Rattle.roll_peer.specs.declared.digests.Digests.{Digests}
 use Rattle.roll_peer.specs.declared.event.PeerEvent.{PeerEvent}
-use Rattle.roll_peer.specs.declared.event.PeerEvent.TheVariants.{Synchronizing, Synchronized, DisconnectedFromPeer, Interrupted, Resumed, Desync, Mismatch, Dropped, Restarted, Refused}
+use Rattle.roll_peer.specs.declared.event.PeerEvent.TheVariants.{Synchronizing, Synchronized, DisconnectedFromPeer, Interrupted, Resumed, Desync, Mismatch, Restarted, Refused}
 use Rattle.roll_peer.specs.declared.settings.MatchSettings.{MatchSettings}
 
 -- an event is told, if there is one
@@ -74,14 +72,14 @@ mismatched m (Some field) = Some (Mismatch m field)
 abbrev pub found_out : ℕ → Option Field → Option Field → Option PeerEvent
 found_out m before after = mismatched m (newly before after)
 
--- it was opened anew
+-- it was opened anew, for the first time
 abbrev pub restarting : ℕ → Contact → Contact → Option PeerEvent
 restarting m before after =
-    if before.restarted == after.restarted then None else Some (Restarted m)
+    only_if ((before.restarted == 0) && nat_lt 0 after.restarted) (Restarted m)
 
--- the first of its packets in a row is refused
+-- the first of its packets is refused
 abbrev pub refusing : ℕ → Contact → Contact → Option PeerEvent
-refusing m before after = only_if (after.is_refusing && not before.is_refusing) (Refused m)
+refusing m before after = only_if ((before.refused == 0) && nat_lt 0 after.refused) (Refused m)
 
 -- a machine was heard, which led from a contact to another
 unfoldable pub after_heard : ℕ → Contact → Contact → Waiting → Waiting
@@ -101,11 +99,6 @@ abbrev pub desync : Digests → ℕ → Option Settled → Option PeerEvent
 desync digests m None = None
 desync digests m (Some settled) =
     only_if (differs settled.digest (digest_at digests settled.frame)) (Desync m settled.frame)
-
--- its sender regards this machine as gone
-abbrev pub dropped : Heard → Option PeerEvent
-dropped WasDropped = Some Dropped
-dropped WasTaken = None
 
 -- ---- turns
 

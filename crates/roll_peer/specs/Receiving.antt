@@ -10,12 +10,14 @@ use Rattle.roll_contact.specs.declared.key.Key.{Key}
 use Rattle.roll_member.specs.Hearing.{HearsPacket}
 use Rattle.roll_member.specs.Beside.{met, IsOf, Membership}
 use Rattle.roll_member.specs.declared.member.Taken.{Taken}
+use Rattle.roll_mesh.specs.declared.heard.Heard.{Heard}
+use Rattle.roll_mesh.specs.declared.heard.Heard.TheVariants.{Dropped as WasDropped, Taken as WasTaken}
 use Rattle.roll_mesh.specs.declared.packet.Packet.{Packet}
 use Rattle.roll_mesh.specs.Machines.{is_in, leave, shortened}
 use Rattle.roll_mesh.specs.Meshes.{is_had, stepped}
 use Rattle.roll_session.specs.Seen.{Seen, Step}
 use Rattle.roll_wire.specs.declared.datagram.Body.{Body}
-use Rattle.roll_wire.specs.declared.datagram.Clocks.{Clocks}
+use Rattle.roll_wire.specs.declared.datagram.Head.{Head}
 use Rattle.roll_mesh.specs.declared.limits.TheConstants.{MACHINE_LIMIT, PLAYER_LIMIT}
 use Rattle.roll_wire.specs.declared.datagram.Hello.{Hello}
 use Rattle.roll_wire.specs.declared.datagram.Marked.{Marked}
@@ -23,9 +25,10 @@ use Rattle.roll_wire.specs.declared.fault.WireFault.{WireFault}
 use Rattle.roll_wire.specs.Reading.{all_of, unmarked_of}
 use Rattle.roll_wire.specs.declared.limits.TheConstants.{DATAGRAM_LIMIT}
 use Rattle.roll_wire.specs.Spelling.{content as content_of, Content, Greets, Leaves, Message, Plays, Turn}
+use Rattle.roll_peer.specs.CutOffs.{over_if}
 use Rattle.roll_peer.specs.Judging.{are_no_more, is_inside}
 use Rattle.roll_peer.specs.Marks.{end_among, kept_with, told_with}
-use Rattle.roll_peer.specs.Notices.{after_heard, desync, dropped, told}
+use Rattle.roll_peer.specs.Notices.{after_heard, desync, told}
 use Rattle.roll_peer.specs.Peered.{beside, contact_at, Peered}
 use Rattle.roll_peer.specs.Settings.{number_for, opening_of, terms_of}
 use Rattle.roll_peer.specs.Strangers.{one_stranger_more}
@@ -199,10 +202,10 @@ with_stranger bytes why peer =
 -- ---- what is heard
 
 -- what is known of a machine once its turn was heard, of which words may have been refused
-abbrev pub after_words : Bool → Option Clocks → ℕ → ℕ → Contact → Contact
-after_words is_refused clocks frame now contact =
-    if is_refused then refused (after_play clocks frame now contact)
-    else after_play clocks frame now contact
+abbrev pub after_words : Bool → Head → ℕ → ℕ → Contact → Contact
+after_words is_refused head frame now contact =
+    if is_refused then refused (after_play head.number head.clocks frame now contact)
+    else after_play head.number head.clocks frame now contact
 
 -- a machine is known otherwise, and so is a settled state of it that this machine hadn't
 abbrev pub knowing : Turn → ℕ → Contact → Peered → Peered
@@ -224,12 +227,17 @@ end_for peer t = end_among peer.voids (marks_told peer t) PLAYER_LIMIT
 abbrev pub marks_after : Peered → Membership → Turn → List (Option Marked)
 marks_after old member t = kept_with member.mesh.machine.has old.marks (marks_told old t)
 
+-- whether its sender regards this machine as gone: the match is over here then
+abbrev pub is_dropped : Heard → Bool
+is_dropped WasDropped = true
+is_dropped WasTaken = false
+
 -- once session and mesh have heard a turn, at a frame of the session
 abbrev pub after_turn : Peered → Membership → ℕ → ℕ → Turn → Taken → Peered
 after_turn old member frame sender t taken =
-    let contact = after_words (is_some taken.refusal) t.head.clocks frame (moment_of old) (contact_at old sender) in
+    let contact = after_words (is_some taken.refusal) t.head frame (moment_of old) (contact_at old sender) in
     let known = knowing t sender contact (record old { member = member; marks = marks_after old member t }) in
-    record known { waiting = told known.waiting (dropped taken.heard) }
+    over_if (is_dropped taken.heard) known
 
 -- a turn is heard: its words become remote words of the session, as far as it takes them, and of who isn't gone none after one with a
 -- mark that isn't void;

@@ -8,12 +8,14 @@ use Rattle.roll_session.specs.Calls.{asked, event_of, IsRoll}
 use Rattle.roll_session.specs.Others.{bare, AreSaid, Said}
 use Rattle.roll_session.specs.Seen.{Seen, Step, plain}
 use Rattle.roll_session.specs.declared.event.Call.{Call}
+use Rattle.roll_frame.specs.declared.refusal.Refusal.TheVariants.{NoMemory}
 use Rattle.roll_frame.specs.declared.reply.Reply.{Reply}
 use Rattle.roll_peer.specs.Peered.{Peered}
 use Rattle.roll_peer.specs.Receiving.{meeting, ticking, IsIgnored, Receives}
 use Rattle.roll_peer.specs.Turning.{IsPolled, Turns}
 use Rattle.roll_peer.specs.declared.received.Ignored.{Ignored}
 use Rattle.roll_peer.specs.declared.received.Received.{Received}
+use Rattle.roll_peer.specs.declared.refusal.PeerRefusal.TheVariants.{Session as SessionRefuses}
 use Rattle.roll_peer.specs.declared.request.PeerReply.{PeerReply}
 use Rattle.roll_peer.specs.declared.request.PeerReply.TheVariants.{Session as Says, Received as HasReceived, Polled as HasPolled, Turned as HasTurned}
 use Rattle.roll_peer.specs.declared.request.PeerRequest.{PeerRequest}
@@ -82,11 +84,14 @@ module _ {G S N : Type 0} where
     pub events : List CoreEvent
     pub done : IsDoneBy step old new request reply events
 
-  -- memory ran out for a request; nothing ends so that only hears others, since what has no room is asked for again
+  -- memory ran out for a request: of a turn the network is left as it was by any other refusal of its roll; nothing ends so that only
+  -- hears others, since what has no room is asked for again
   abbrev pub IsShortOf : Step → Beside → Beside → PeerRequest G S N → Type 0
   IsShortOf step old new (Asks request) =
       IsShort step old.session new.session (asked request) × (new.peer ≡ old.peer)
-  IsShortOf step old new (Turn now) = EndsTurn step old.session new.session
+  IsShortOf step old new (Turn now) =
+      Turns old.session new.session (ticking now old.peer) new.peer (Err (SessionRefuses NoMemory))
+      × EndsTurn step old.session new.session
   IsShortOf step old new request = ⊥
 
 -- a request with its reply, the events that it stood for, and what was there after it

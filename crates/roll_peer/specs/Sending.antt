@@ -42,6 +42,7 @@ pub record IsPlayFor (s : Seen) (peer : Peered) (m : ℕ) (t : Turn) : Type 0 wh
   pub told : IsTold (beside s peer) m packet t.words
   pub view : t.head.view ≡ packet.view
   pub offers : t.head.offers ≡ (shortened packet).offers
+  pub number : t.head.number ≡ (contact_at peer m).sent
   pub clocks : t.head.clocks ≡ clocks_in s.core.frame peer (contact_at peer m)
   pub settled : t.head.settled ≡ settled_in peer (contact_at peer m)
   pub marks : t.marks ≡ offered_marks t.head.offers peer.marks

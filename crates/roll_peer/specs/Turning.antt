@@ -26,6 +26,7 @@ use Rattle.roll_peer.specs.Paces.{paced, slowest, wait_of}
 use Rattle.roll_peer.specs.declared.event.PeerEvent.TheVariants.{Running, TimeSync, Left, Missing, Stalled, Strangers}
 use Rattle.roll_peer.specs.Peered.{beside, contact_at, stall_at, Peered}
 use Rattle.roll_peer.specs.Receiving.{meeting, moment_of, IsOther}
+use Rattle.roll_peer.specs.Settings.{patience_of}
 use Rattle.roll_peer.specs.Stalls.{held_for, is_overdue, is_to_tell, watched}
 use Rattle.roll_peer.specs.Strangers.{are_to_tell}
 use Rattle.roll_peer.specs.declared.refusal.PeerRefusal.{PeerRefusal}
@@ -45,10 +46,23 @@ is_ready_at peer mesh m =
 abbrev pub are_ready : Peered → Seated → Bool
 are_ready peer mesh = list_all (is_ready_at peer mesh) (range_with_len 0 mesh.seat.machines)
 
--- a machine that was silent for too long is gone, for one that hears most
+-- whether a machine that was to come with this epoch hasn't come for too long: the match has begun, and goes on without it
+abbrev pub is_late : Peered → ℕ → ℕ → Bool
+is_late peer now m =
+    peer.running
+    && (not (is_ready_at peer peer.member.mesh m)
+    && nat_lt (patience_of peer.settings) (since now peer.opened))
+
+-- whether a machine was silent for too long, or hasn't come for too long, for one that hears most
+abbrev pub is_out : Peered → ℕ → ℕ → Bool
+is_out peer now m =
+    peer.cut_off.hears_most
+    && (is_silent (contact_at peer m) now peer.settings.silent_after || is_late peer now m)
+
+-- such a machine is gone
 abbrev pub silenced_at : ℕ → ℕ → Peered → Peered
 silenced_at now m peer =
-    if peer.cut_off.hears_most && is_silent (contact_at peer m) now peer.settings.silent_after
+    if is_out peer now m
     then record peer { member = record peer.member { mesh = without m peer.member.mesh } }
     else peer
 
@@ -63,21 +77,31 @@ held_up_by peer m =
     then holds_up peer.member.mesh.seat peer.member.mesh.machine peer.member.limits.threshold m
     else None
 
+-- whether a machine has said that it is past its first frame: one that hasn't may be kept from beginning by others
+abbrev pub has_played : Peered → ℕ → Bool
+has_played peer m =
+    option_map_or (λ theirs. nat_lt 0 theirs.frame) (contact_at peer m).their_clocks false
+
+-- after how many milliseconds more it is gone for holding up the match, 0 if it isn't at all
+abbrev pub time_left : Peered → ℕ → ℕ → ℕ
+time_left peer now m =
+    if has_played peer m then peer.settings.stalled_after - held_for (stall_at peer m) now else 0
+
 -- that is told, if it is due
 abbrev pub stall_told : ℕ → ℕ → Peered → Peered
 stall_told now m peer =
     if is_to_tell (stall_at peer m) now peer.settings.notify_after
     then record peer {
       stalls = slice_set peer.stalls m (record (stall_at peer m) { told = true });
-      waiting = pushed peer.waiting
-          (Stalled m (peer.settings.stalled_after - held_for (stall_at peer m) now));
+      waiting = pushed peer.waiting (Stalled m (time_left peer now m));
     }
     else peer
 
--- a machine that has done so for too long is gone, for one that hears most
+-- a machine that has done so for too long, and isn't kept from beginning, is gone, for one that hears most
 abbrev pub stall_ended : ℕ → ℕ → Peered → Peered
 stall_ended now m peer =
-    if peer.cut_off.hears_most && is_overdue (stall_at peer m) now peer.settings.stalled_after
+    if peer.cut_off.hears_most
+    && (has_played peer m && is_overdue (stall_at peer m) now peer.settings.stalled_after)
     then record peer { member = record peer.member { mesh = without m peer.member.mesh } }
     else peer
 

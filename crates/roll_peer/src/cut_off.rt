@@ -2,7 +2,7 @@
 ghost use Rattle.std.specs.Prelude.{◌≡◌, ◌<◌, ◌≤◌, ◌&&◌, false, IfSome};
 ghost use Rattle.std.specs.Option.{option_map_or};
 ghost use Rattle.roll_mesh.specs.declared.limits.TheConstants.{MACHINE_LIMIT};
-ghost use Rattle.roll_peer.specs.CutOffs.{are_most, count_of, cut_off_noted, cut_off_since, first_silent, hears_most, is_cut_off, is_heard, is_here, lowest_here, most_noted};
+ghost use Rattle.roll_peer.specs.CutOffs.{are_most, count_of, cut_off_noted, cut_off_since, first_silent, hears_most, is_cut_off, is_heard, is_here, lowest_here, most_noted, over_if};
 ghost use Rattle.roll_contact.specs.Contacts.{is_silent};
 ghost use Rattle.roll_peer.specs.Peered.{contact_at, first_cut_off};
 
@@ -17,7 +17,7 @@ pub struct CutOff {
     pub hears_most: bool,
     /// Since when it is cut off.
     pub since: Option<u32>,
-    /// Whether it was cut off for so long that the match is over here.
+    /// Whether the match is over here, and that was told: it was cut off for so long, or another machine regards it as gone.
     pub is_over: bool,
 }
 
@@ -169,12 +169,17 @@ impl Peer {
                     over_in: silent_after,
                 });
             }
-            Some(at) => {
-                if !self.cut_off.is_over && since(now, at) > silent_after {
-                    self.cut_off.is_over = true;
-                    self.events.push(PeerEvent::Dropped);
-                }
-            }
+            Some(at) => self.end_if(since(now, at) > silent_after),
+        }
+    }
+
+    /// The match is over here, if it is by this or was before; that is told once.
+    pub(crate) fn end_if(&mut self, is_over: bool)
+        ensures { self.new ≡ over_if is_over self.old }
+    {
+        if is_over && !self.cut_off.is_over {
+            self.cut_off.is_over = true;
+            self.events.push(PeerEvent::Dropped);
         }
     }
 }

@@ -62,7 +62,7 @@ pub enum PeerEvent {
         /// The first field that it has otherwise.
         field: Field,
     },
-    /// Another machine regards this one as gone, or this one was cut off for too long: the match is over here.
+    /// Another machine regards this one as gone, or this one was cut off for too long: the match is over here. Told once in an epoch.
     Dropped,
     /// This machine hears too few of the others, and so calls nobody gone: either the network is split, and they are the larger part,
     /// or it hears nobody.
@@ -76,7 +76,8 @@ pub enum PeerEvent {
         /// The machine.
         machine: u8,
     },
-    /// A machine was opened anew in the middle of the match. It can't come back to it: its first opening is silent from now on.
+    /// A machine was opened anew in the middle of the match. It can't come back to it: its first opening is silent from now on. Told
+    /// once of each machine.
     Restarted {
         /// The machine.
         machine: u8,
@@ -88,7 +89,7 @@ pub enum PeerEvent {
         /// After how many milliseconds more it is regarded as gone, 0 if it isn't at all.
         disconnect_in: u32,
     },
-    /// Something that a machine sealed was refused, or words of it. Told at the first, and again once something was taken between.
+    /// Something that a machine sealed was refused, or words of it. Told once of each machine; its statistics count the others.
     Refused {
         /// The machine.
         machine: u8,
@@ -166,6 +167,17 @@ impl Events {
             events: [PeerEvent::Running; EVENT_LIMIT],
             count: 0,
             lost: 0,
+        }
+    }
+
+    /// The same events wait, in the network of the next epoch.
+    pub(crate) fn copy(&self) -> Events
+        ensures { result ≡ self.now }
+    {
+        Events {
+            events: self.events,
+            count: self.count,
+            lost: self.lost,
         }
     }
 

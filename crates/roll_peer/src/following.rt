@@ -9,7 +9,6 @@ ghost use Rattle.roll_peer.specs.Settings.{seat_of};
 
 use crate::cut_off::CutOff;
 use crate::digests::Digests;
-use crate::event::Events;
 use crate::pace::Pace;
 use crate::peer::Peer;
 use crate::refusal::OpenRefusal;
@@ -48,7 +47,8 @@ impl Seating {
 
 impl Peer {
     /// Opens the network of the match's next epoch, beside that epoch's session. What is known of the machines that stay goes over, so
-    /// nobody has to greet whom it plays with already, and whoever is gone is gone there too. This epoch's network stays as it is.
+    /// nobody has to greet whom it plays with already, and whoever is gone is gone there too. The events that wait go over too. This
+    /// epoch's network stays as it is.
     ///
     /// # Errors
     ///
@@ -80,7 +80,7 @@ impl Peer {
                 stalls: [Stall::new(); MACHINE_LIMIT],
                 running: self.running,
                 known_gone: self.known_next(seating),
-                events: Events::new(),
+                events: self.events.copy(),
                 digests: Digests::new(),
                 pace,
                 frame: session.frame(),

@@ -1,13 +1,13 @@
 //! What a peer tells its program.
 ghost use Rattle.std.specs.Prelude.{◌≡◌};
 ghost use Rattle.roll_mesh.specs.declared.limits.TheConstants.{PLAYER_LIMIT as PLAYERS};
-ghost use Rattle.roll_peer.specs.Notices.{after_heard, came, desync, dropped, found_out, newly, place_of, player_left, refusing, restarting, resumed, told, told_of};
+ghost use Rattle.roll_peer.specs.Notices.{after_heard, came, desync, found_out, newly, place_of, player_left, refusing, restarting, resumed, told, told_of};
 
 use crate::digests::Digests;
 use crate::event::{Events, PeerEvent};
 use roll_contact::{Contact, Field, Stage};
 use roll_member::Left;
-use roll_mesh::{Heard, PLAYER_LIMIT};
+use roll_mesh::PLAYER_LIMIT;
 use roll_wire::Settled;
 
 impl Events {
@@ -42,15 +42,6 @@ impl Events {
         match digests.at(frame) {
             Some(ours) if ours != digest => self.push(PeerEvent::Desync { machine, frame }),
             _ => {}
-        }
-    }
-
-    /// A turn was heard, whose sender may regard this machine as gone.
-    pub(crate) fn dropped(&mut self, heard: Heard)
-        ensures { self.new ≡ told self.old (dropped heard) }
-    {
-        if matches!(heard, Heard::Dropped) {
-            self.push(PeerEvent::Dropped);
         }
     }
 
@@ -127,22 +118,22 @@ fn found_out(machine: u8, before: Option<Field>, after: Option<Field>) -> Option
     }
 }
 
-/// What is told of a machine that was opened anew.
+/// What is told of a machine that was opened anew, for the first time.
 fn restarting(machine: u8, before: &Contact, after: &Contact) -> Option<PeerEvent>
     ensures { result ≡ restarting machine before.now after.now }
 {
-    if before.restarted == after.restarted {
-        None
-    } else {
+    if before.restarted == 0 && after.restarted > 0 {
         Some(PeerEvent::Restarted { machine })
+    } else {
+        None
     }
 }
 
-/// What is told of a machine the first of whose packets in a row is refused.
+/// What is told of a machine the first of whose packets is refused.
 fn refusing(machine: u8, before: &Contact, after: &Contact) -> Option<PeerEvent>
     ensures { result ≡ refusing machine before.now after.now }
 {
-    if after.is_refusing && !before.is_refusing {
+    if before.refused == 0 && after.refused > 0 {
         Some(PeerEvent::Refused { machine })
     } else {
         None

@@ -8,7 +8,7 @@ ghost use Rattle.roll_member.specs.Joined.{IsTied};
 ghost use Rattle.roll_mesh.specs.Meshes.{is_had};
 ghost use Rattle.roll_peer.specs.Marks.{is_spelled_in};
 ghost use Rattle.roll_peer.specs.Peered.{beside, contact_at};
-ghost use Rattle.roll_peer.specs.Receiving.{after_ignored, after_words, byte_at, deaf_to, end_for, greets, ignored, ignored_sized, is_refusal, is_sized, is_unknown, key_of, knowing, marks_after, meeting, moment_of, open_by, opened, packet_of, read_text, refused_of, sender_of, ticking, unheard, unplayed, with_stranger, Hears, HearsBye, HearsHello, HearsTurn, IsIgnored, IsOpened, Receives};
+ghost use Rattle.roll_peer.specs.Receiving.{after_ignored, after_words, byte_at, deaf_to, end_for, greets, ignored, ignored_sized, is_dropped, is_refusal, is_sized, is_unknown, key_of, knowing, marks_after, meeting, moment_of, open_by, opened, packet_of, read_text, refused_of, sender_of, ticking, unheard, unplayed, with_stranger, Hears, HearsBye, HearsHello, HearsTurn, IsIgnored, IsOpened, Receives};
 ghost use Rattle.roll_wire.specs.Reading.{Gives};
 ghost use Rattle.roll_wire.specs.Spelling.{are_spelled, content, message, turn, Plays};
 
@@ -18,10 +18,10 @@ use crate::received::{Ignored, Received};
 use roll_contact::seal::unseal;
 use roll_contact::{Contact, Key};
 use roll_member::Taken;
-use roll_mesh::{MACHINE_LIMIT, Packet};
+use roll_mesh::{Heard, MACHINE_LIMIT, Packet};
 use roll_session::Networked;
 use roll_wire::{
-    Body, Clocks, DATAGRAM_LIMIT, Datagram, Hello, Play, WireFault, decode, decode_unmarked,
+    Body, DATAGRAM_LIMIT, Datagram, Head, Hello, Play, WireFault, decode, decode_unmarked,
 };
 
 /// Where a datagram has its sender's number, and its kind.
@@ -309,7 +309,7 @@ impl Peer {
         let frame = session.frame();
         let taken = self.take_turn(session, sender, play, packet)?;
         self.know_turn(sender, play, frame, taken.refusal.is_some());
-        self.events.dropped(taken.heard);
+        self.end_if(is_dropped(taken.heard));
         Some(taken)
     }
 
@@ -382,11 +382,11 @@ impl Peer {
     fn know_turn(&mut self, sender: u8, play: &Play, frame: u32, refused: bool)
         requires { sender < MACHINE_LIMIT }
         ensures { self.new ≡ knowing (turn play.now) sender
-            (after_words refused play.now.head.clocks frame (moment_of self.old) (contact_at self.old sender)) self.old }
+            (after_words refused play.now.head frame (moment_of self.old) (contact_at self.old sender)) self.old }
     {
         let place = usize::from(sender);
         let before = self.contacts[place];
-        let contact = after_words(before, play.head.clocks, frame, self.clock.moment, refused);
+        let contact = after_words(before, &play.head, frame, self.clock.moment, refused);
         self.contacts[place] = contact;
         self.events.heard(sender, &before, &contact);
         self.events
@@ -405,6 +405,13 @@ impl Peer {
         self.contacts[place] = contact;
         let _ = self.member.leave(sender);
     }
+}
+
+/// Whether the sender of what was heard regards this machine as gone.
+fn is_dropped(heard: Heard) -> bool
+    ensures { result ≡ is_dropped heard }
+{
+    matches!(heard, Heard::Dropped)
 }
 
 /// Whether bytes are as many as a datagram has.
@@ -477,17 +484,11 @@ fn is_unknown(why: Ignored) -> bool
 }
 
 /// What is known of a machine once its turn was heard, of which words may have been refused.
-fn after_words(
-    before: Contact,
-    clocks: Option<Clocks>,
-    frame: u32,
-    now: u32,
-    refused: bool,
-) -> Contact
-    ensures { result ≡ after_words refused clocks frame now before }
+fn after_words(before: Contact, head: &Head, frame: u32, now: u32, refused: bool) -> Contact
+    ensures { result ≡ after_words refused head.now frame now before }
 {
     let mut contact = before;
-    contact.play(clocks, frame, now);
+    contact.play(head.number, head.clocks, frame, now);
     if refused {
         contact.refuse();
     }

@@ -127,6 +127,17 @@ impl Peer {
         machine >= seat.machines || machine == seat.me || self.member.mesh().is_gone(machine)
     }
 
+    /// One more than the greatest number of a play of a machine that was heard, 0 if none was: what rises by one that is newer than all
+    /// before.
+    pub fn after(&self, machine: u8) -> u32
+        ensures { result ≡ (contact_at self.now machine).after }
+    {
+        match self.contacts.get(usize::from(machine)) {
+            Some(contact) => contact.after,
+            None => 0,
+        }
+    }
+
     /// How far this machine is, and when it sends, if that is due.
     fn clocks_for(&self, frame: u32, contact: &Contact) -> Option<Clocks>
         ensures { result ≡ clocks_in frame self.now contact.now }
@@ -161,6 +172,7 @@ impl Peer {
         let contact = self.contacts[usize::from(machine)];
         let marks = self.offered_marks(&offers);
         let head = Head {
+            number: contact.sent,
             clocks: self.clocks_for(session.frame(), &contact),
             view,
             settled: self.settled_for(&contact),

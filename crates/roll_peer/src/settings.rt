@@ -1,10 +1,13 @@
 //! What the machines of a match are told.
 ghost use Rattle.std.specs.Prelude.{◌≡◌, ◌<◌};
 ghost use Rattle.roll_mesh.specs.declared.limits.TheConstants.{MACHINE_LIMIT};
-ghost use Rattle.roll_peer.specs.Settings.{first_moment, number_for, opening_of, seat_of, terms_of};
+ghost use Rattle.roll_peer.specs.Settings.{first_moment, number_for, opening_of, patience_of, seat_of, terms_of};
 
 use roll_contact::{Opening, Terms};
 use roll_mesh::{MACHINE_LIMIT, PLAYER_LIMIT, Seat};
+
+/// For how many milliseconds one who comes is waited for, if nobody is ever silent for too long.
+const COMER_PATIENCE: u32 = 10_000;
 
 /// A match, as one of its machines plays it. How many machines there are, the owners, the number of words and the digest are the same at each of them;
 /// `me`, the draw and the times are each machine's own. Take the same times at all: who waits for less than another asks for answers
@@ -24,11 +27,13 @@ pub struct MatchSettings {
     pub draw: u64,
     /// A digest of all else that must be alike: the game, its opening, the session's limits.
     pub digest: u64,
-    /// After how many milliseconds of silence a machine is regarded as gone; 0: never.
+    /// After how many milliseconds of silence a machine is regarded as gone; 0: never. So long one who comes with an epoch is waited for,
+    /// or 10 seconds if this is 0.
     pub silent_after: u32,
     /// After how many milliseconds of silence `Interrupted` is told, and `Stalled` of a machine that gives no words; 0: never.
     pub notify_after: u32,
-    /// After how many milliseconds a machine that others wait for, and that could give its next word, is regarded as gone; 0: never.
+    /// After how many milliseconds a machine that others wait for, and that could give its next word, is regarded as gone; 0: never. One
+    /// that hasn't said that it is past its first frame isn't: others may keep it from beginning.
     pub stalled_after: u32,
     /// Whether this machine hands on datagrams of others where a line is broken, and has its own handed on. It does so only with those
     /// that say so too.
@@ -74,6 +79,17 @@ impl MatchSettings {
             draw: self.draw,
             silent_after: self.silent_after,
             carries: self.carries,
+        }
+    }
+
+    /// For how many milliseconds one who comes with an epoch is waited for.
+    pub(crate) fn patience(&self) -> u32
+        ensures { result ≡ patience_of self.now }
+    {
+        if self.silent_after == 0 {
+            COMER_PATIENCE
+        } else {
+            self.silent_after
         }
     }
 

@@ -6,7 +6,7 @@ ghost use Rattle.roll_mesh.specs.declared.limits.TheConstants.{MACHINE_LIMIT};
 ghost use Rattle.roll_peer.specs.Receiving.{meeting, moment_of, ticking};
 ghost use Rattle.roll_peer.specs.Rolling.{RollsOnce, TurnsOnce};
 ghost use Rattle.roll_session.specs.Changes.{after_sync, sync_refusal, IsRollRefused};
-ghost use Rattle.roll_peer.specs.Turning.{are_ready, begun, ends_in_roll, farewell_at, farewell_until, has_waited, held_up_by, hushed_at, hushed_until, is_graft, is_missed, is_mistaken, is_ready_at, is_roll, looked_after, missed_at, missed_until, moved_to, over, silenced_at, silenced_until, stall_told, strangers_told, watched_at, watched_until, IsParted, IsPolled, IsUpToDate, Plays, Polls, Turns};
+ghost use Rattle.roll_peer.specs.Turning.{are_ready, begun, ends_in_roll, farewell_at, farewell_until, has_played, has_waited, held_up_by, hushed_at, hushed_until, is_graft, is_late, is_missed, is_mistaken, is_out, is_ready_at, is_roll, looked_after, missed_at, missed_until, moved_to, over, silenced_at, silenced_until, stall_told, strangers_told, time_left, watched_at, watched_until, IsParted, IsPolled, IsUpToDate, Plays, Polls, Turns};
 
 use crate::event::PeerEvent;
 use crate::peer::Peer;
@@ -118,16 +118,33 @@ impl Peer {
         }
     }
 
-    /// A machine is gone if it was silent for too long, unless this machine hears too few.
+    /// A machine is gone if it was silent for too long, or hasn't come for too long, unless this machine hears too few.
     fn silence_one(&mut self, machine: u8, now: u32)
         requires { machine < MACHINE_LIMIT }
         ensures { self.new ≡ silenced_at now machine self.old }
     {
-        if self.cut_off.hears_most
-            && self.contacts[usize::from(machine)].is_silent(now, self.settings.silent_after)
-        {
+        if self.is_out(machine, now) {
             let _ = self.member.leave(machine);
         }
+    }
+
+    fn is_out(&self, machine: u8, now: u32) -> bool
+        requires { machine < MACHINE_LIMIT }
+        ensures { result ≡ is_out self.now now machine }
+    {
+        let contact = self.contacts[usize::from(machine)];
+        let is_silent = contact.is_silent(now, self.settings.silent_after);
+        self.cut_off.hears_most && (is_silent || self.is_late(machine, now))
+    }
+
+    /// Whether a machine that was to come with this epoch hasn't come for too long.
+    fn is_late(&self, machine: u8, now: u32) -> bool
+        requires { machine < MACHINE_LIMIT }
+        ensures { result ≡ is_late self.now now machine }
+    {
+        self.running
+            && !self.is_ready(machine)
+            && since(now, self.opened) > self.settings.patience()
     }
 
     /// Machines that hold up the match are watched.
@@ -150,6 +167,7 @@ impl Peer {
         self.stalls[place].watch(held, now);
         self.tell_stall(machine, now);
         if self.cut_off.hears_most
+            && self.has_played(machine)
             && self.stalls[place].is_overdue(now, self.settings.stalled_after)
         {
             let _ = self.member.leave(machine);
@@ -164,14 +182,36 @@ impl Peer {
         let place = usize::from(machine);
         let stall = self.stalls[place];
         if stall.is_to_tell(now, self.settings.notify_after) {
+            let disconnect_in = self.time_left(machine, now);
             self.stalls[place].told = true;
             self.events.push(PeerEvent::Stalled {
                 machine,
-                disconnect_in: self
-                    .settings
-                    .stalled_after
-                    .saturating_sub(stall.lasted(now)),
+                disconnect_in,
             });
+        }
+    }
+
+    /// After how many milliseconds more a machine is gone for holding up the match, 0 if it isn't at all.
+    fn time_left(&self, machine: u8, now: u32) -> u32
+        requires { machine < MACHINE_LIMIT }
+        ensures { result ≡ time_left self.now now machine }
+    {
+        if self.has_played(machine) {
+            let lasted = self.stalls[usize::from(machine)].lasted(now);
+            self.settings.stalled_after.saturating_sub(lasted)
+        } else {
+            0
+        }
+    }
+
+    /// Whether a machine has said that it is past its first frame: one that hasn't may be kept from beginning by others.
+    fn has_played(&self, machine: u8) -> bool
+        requires { machine < MACHINE_LIMIT }
+        ensures { result ≡ has_played self.now machine }
+    {
+        match self.contacts[usize::from(machine)].their_clocks {
+            Some(theirs) => theirs.frame > 0,
+            None => false,
         }
     }
 

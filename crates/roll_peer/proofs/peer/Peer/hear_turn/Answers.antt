@@ -12,15 +12,15 @@ returns-clause-heard g c =
     let after = g.S.Networked.seen c.take_turn.new.session in
     let old : Peered = c.args.self.now in
     let mid : Peered = c.take_turn.new.self in
-    let clocks = c.args.play.now.head.clocks in
+    let head = c.args.play.now.head in
     let by_frame = subst (λ (n : ℕ). c.know_turn.new.self
     ≡ knowing (turn c.args.play.now) c.args.sender
-    (after_words c.is_some.result clocks n (moment_of mid) (contact_at mid c.args.sender)) mid)
+    (after_words c.is_some.result head n (moment_of mid) (contact_at mid c.args.sender)) mid)
     c.frame-frame.ensures c.know_turn.ensures in
     let known = subst (λ (b : Bool). c.know_turn.new.self
     ≡ knowing (turn c.args.play.now) c.args.sender
-    (after_words b clocks s.core.frame (moment_of mid) (contact_at mid c.args.sender)) mid)
+    (after_words b head s.core.frame (moment_of mid) (contact_at mid c.args.sender)) mid)
     c.is_some.ensures by_frame in
     turn_heard g.S.Networked.step s after old mid c.know_turn.new.self _ c.args.sender
     (turn c.args.play.now) c.in_ok-taken.taken c.in_ok-taken.ensures.heard (c.take_turn.ensures.rest (ap is_some c.in_ok-taken.was))
-    c.take_turn.ensures.limits known (rw (← c.self.view_is, c.dropped.ensures) refl)
+    c.take_turn.ensures.limits known (rw (← c.is_dropped.ensures) c.end_if.ensures)

@@ -1,7 +1,9 @@
 use Rattle.std.proofs.Common.{◌≡◌, [], ◌∷◌, List, ℕ, map, refl, subst, rules, Err}
 use Rattle.roll_session.specs.Calls.{asked}
 use Rattle.roll_session.specs.Seen.{plain}
+use Rattle.roll_peer.specs.Receiving.{ticking}
 use Rattle.roll_peer.specs.Requests.{HearsBytes}
+use Rattle.roll_peer.specs.Turning.{Turns}
 use Rattle.roll_peer.proofs.Running.{brought, ended_turn, heard_bytes, turned_by}
 use Rattle.roll_peer.proofs.peer.Peer.perform.Goals as goal
 
@@ -25,7 +27,8 @@ pub returns-in_err-turned-in-Turn-clause-short : goal.returns-in_err-turned-in-T
 returns-in_err-turned-in-Turn-clause-short g c =
     let e = c.in_err-turned-in-Turn in
     let is : c.from_residual-in_err-turned-in-Turn.result ≡ Err e.field-0.0 = search (rules, c.from_residual-in_err-turned-in-Turn.ensures) in
-    rw (is, c.in-Turn.is) (ended_turn g.G.Game.step c.args.session.now c.turn.new.session _ e.ensures.short c.turn.ensures.once)
+    let turns = subst (Turns c.args.session.now c.turn.new.session (ticking c.in-Turn.now c.args.self.now) c.turn.new.self) e.ensures.short c.turn.ensures.turned in
+    rw (is, c.in-Turn.is) (turns, ended_turn g.G.Game.step c.args.session.now c.turn.new.session _ e.ensures.short c.turn.ensures.once)
 
 pub returns-in_ok-turned-in-Turn-clause-done : goal.returns-in_ok-turned-in-Turn-clause-done
 returns-in_ok-turned-in-Turn-clause-done g c =

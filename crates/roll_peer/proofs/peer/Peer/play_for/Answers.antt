@@ -1,6 +1,7 @@
 use Rattle.std.proofs.Common.{◌≡◌, ◌∙◌, ap, refl}
 use Rattle.std.specs.Prelude.{slice_index_or}
 use Rattle.roll_contact.specs.Contacts.{opened_contact}
+use Rattle.roll_contact.specs.declared.contact.Contact.{Contact}
 use Rattle.roll_mesh.specs.declared.packet.Packet.{Packet}
 use Rattle.roll_peer.specs.Peered.{contact_at, Peered}
 use Rattle.roll_peer.specs.Sending.{clocks_in, settled_in}
@@ -17,6 +18,7 @@ returns-clause-told g c =
       told = rw (← c.self.view_is) c.tell-words.ensures;
       view = ap (λ (p : Packet). p.view) c.shortened.ensures;
       offers = ap (λ (p : Packet). p.offers) c.shortened.ensures;
+      number = ap (λ (k : Contact). k.sent) contact;
       clocks = c.clocks_for.ensures ∙ ap (λ n. clocks_in n peer (slice_index_or c.self.inside.contacts c.from.result opened_contact)) c.frame.ensures
           ∙ ap (clocks_in (g.S.Networked.seen c.args.session.now).core.frame peer) contact;
       settled = c.settled_for.ensures ∙ ap (settled_in peer) contact;
