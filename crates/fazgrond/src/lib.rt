@@ -44,6 +44,7 @@ pub use roll_branch::extend;
 pub use roll_cert as claims;
 pub use roll_chain::Chain;
 pub use roll_chain::Opening;
+pub use roll_chain::ticket_for;
 pub use roll_epoch as epochs;
 pub use roll_frame::Advice;
 pub use roll_frame::Cell;

@@ -1,15 +1,12 @@
 -- What C sees of epochs and marks.
 use Rattle.std.specs.Prelude.{◌≡◌, ◌⊎◌, ◌≤◌, ◌==◌, ◌||◌, ℕ, Bool, false, not, List, nat_lt, Option, Some, None, if◌then◌else◌, slice_index}
-use Rattle.std.specs.Int.{from_bool}
 use Rattle.std.specs.List.{list_any}
 use Rattle.roll_epoch.specs.Seats.{machines_to, owners_with_absent}
 use Rattle.roll_epoch.specs.declared.terms.Terms.{Terms}
-use Rattle.roll_mesh.specs.Machines.{is_in}
 use Rattle.roll_peer.specs.Marks.{each_player}
 use Rattle.roll_mesh.specs.declared.limits.TheConstants.{PLAYER_LIMIT}
 use Rattle.roll_wire.specs.declared.datagram.Mark.{Mark}
 use Rattle.roll_wire.specs.declared.datagram.Newcomer.{Newcomer}
-use Rattle.fazgrond_c.specs.declared.epoch_kinds.AskOut.{AskOut}
 use Rattle.fazgrond_c.specs.declared.epoch_kinds.EpochIn.{EpochIn}
 use Rattle.fazgrond_c.specs.declared.epoch_kinds.MarkIn.{MarkIn}
 use Rattle.fazgrond_c.specs.declared.epoch_kinds.TheConstants.{AS_BEFORE, EPOCH_SIZE}
@@ -77,10 +74,3 @@ pub record IsMarkOf (given : MarkIn) (mark : Mark) : Type 0 where
 abbrev pub IsMarkFaulty : MarkIn → Type 0
 IsMarkFaulty given =
     (256 ≤ given.threshold) ⊎ ((p : ℕ) × (is_delay (slice_index given.delays p) ≡ false))
-
--- 1 if player p is there
-abbrev pub count_at : List Bool → ℕ → ℕ
-count_at flags p = from_bool (is_in flags p)
-
-abbrev pub ask_out : (player : ℕ) → Newcomer → AskOut
-ask_out player n = record { ticket = n.ticket; player = player; comes = each_player (count_at n.players) }

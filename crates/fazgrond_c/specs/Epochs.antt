@@ -1,11 +1,9 @@
 -- What a call of a peer whose match goes on in epochs comes to.
-use Rattle.std.specs.Prelude.{◌≡◌, ◌≢◌, ◌⊎◌, ℕ, ◌+◌, ◌-◌, ℤ, pos, List, [], Bool, Option, Some, None, option_map, option_and_then, IfSome, IfNone, IsSomeAnd, MatchOption, Result, Ok, Err, slice_get, if◌then◌else◌}
-use Rattle.roll_chain.specs.Chains.{answered, has_stayed}
-use Rattle.roll_chain.specs.Judging.{first_asking, IsOver}
-use Rattle.roll_chain.specs.declared.chain.Chain.{Chain}
+use Rattle.std.specs.Prelude.{◌≡◌, ◌≢◌, ◌⊎◌, ℕ, ◌+◌, ◌-◌, ℤ, pos, List, [], Option, Some, None, option_map, IfSome, IfNone, IsSomeAnd, MatchOption, Result, Ok, Err, if◌then◌else◌}
+use Rattle.roll_chain.specs.Chains.{has_stayed}
+use Rattle.roll_chain.specs.Judging.{IsOver}
 use Rattle.roll_epoch.specs.declared.marks.Ending.{Ending}
 use Rattle.roll_peer.specs.Marking.{IsMarkedAs, IsWhyUnmarked}
-use Rattle.roll_peer.specs.Peered.{Peered}
 use Rattle.roll_peer.specs.declared.received.Ignored.{Ignored}
 use Rattle.roll_peer.specs.declared.refusal.MarkRefusal.{MarkRefusal}
 use Rattle.roll_peer.specs.declared.refusal.OtherSession.{OtherSession}
@@ -17,17 +15,14 @@ use Rattle.roll_seam.specs.declared.refusal.SeamRefusal.{SeamRefusal}
 use Rattle.roll_session.specs.Gameless.{still}
 use Rattle.roll_session.specs.Seen.{Seen}
 use Rattle.roll_wire.specs.declared.datagram.Mark.{Mark}
-use Rattle.roll_wire.specs.declared.datagram.Marked.{Marked}
-use Rattle.roll_wire.specs.declared.datagram.Newcomer.{Newcomer}
 use Rattle.fazgrond_c.specs.Carrying.{IsNextOf}
-use Rattle.fazgrond_c.specs.EpochKinds.{ask_out, epoch_out, IsMarkFaulty, IsMarkOf}
+use Rattle.fazgrond_c.specs.EpochKinds.{epoch_out, IsMarkFaulty, IsMarkOf}
 use Rattle.fazgrond_c.specs.PeerKinds.{code_of_mark, code_of_seam}
 use Rattle.fazgrond_c.specs.Waiting.{AreHandedFirst}
 use Rattle.fazgrond_c.specs.Jobs.{outside}
 use Rattle.fazgrond_c.specs.Made.{closing_in}
 use Rattle.roll_requests.specs.declared.job.TheConstants.{JOBS_OUT}
 use Rattle.fazgrond_c.specs.Written.{code_of_receipt, AreSent}
-use Rattle.fazgrond_c.specs.declared.epoch_kinds.AskOut.{AskOut}
 use Rattle.fazgrond_c.specs.declared.epoch_kinds.EpochIn.{EpochIn}
 use Rattle.fazgrond_c.specs.declared.epoch_kinds.MarkIn.{MarkIn}
 use Rattle.fazgrond_c.specs.declared.epoch_kinds.TheConstants.{MARK_SIZE}
@@ -120,28 +115,6 @@ IsMarkedIn player given old new before after code =
     ((given.size ≢ MARK_SIZE) × ((code ≡ pos 205) × ((new ≡ old) × (after ≡ before))))
     ⊎ ((IsMarkFaulty given × ((code ≡ pos 11) × ((new ≡ old) × (after ≡ before))))
     ⊎ ((given.size ≡ MARK_SIZE) × IsMarkedTold player given old new before after code))
-
--- who is to come by the mark of a player, counted from 1
-abbrev pub newcomer_of : Marked → Option Newcomer
-newcomer_of m = m.mark.newcomer
-
-abbrev pub newcomer_at : Peered → ℕ → Option Newcomer
-newcomer_at peer player = option_and_then newcomer_of (option_and_then (λ m. m) (slice_get peer.marks (player - 1)))
-
--- who asks to come, and isn't answered yet
-abbrev pub asks_by : Peered → ℕ → Option AskOut
-asks_by peer player = option_map (λ n. ask_out player n) (newcomer_at peer player)
-
-abbrev pub asks_in : Peered → Chain → Option AskOut
-asks_in peer chain = option_and_then (asks_by peer) (option_map (λ p. p + 1) (first_asking chain peer))
-
-abbrev pub asking_in : Network → Option AskOut
-asking_in network = option_and_then (λ e. asks_in network.peer e.chain) network.epochs
-
-abbrev pub IsAnsweredIn : (player : ℕ) → Bool → (old new : Network) → ℤ → Type 0
-IsAnsweredIn player is_welcome old new code = MatchOption old.epochs
-    ((code ≡ pos 203) × (new ≡ old))
-    (λ e. (code ≡ pos 0) × (new ≡ record old { epochs = Some (record e { chain = answered e.chain player is_welcome }) }))
 
 -- ---- the next epoch
 

@@ -3,6 +3,7 @@ use Rattle.std.specs.Prelude.{◌≡◌, ◌≢◌, ◌⊎◌, ◌==◌, ◌&&�
 use Rattle.std.specs.List.{list_all, range_with_len}
 use Rattle.roll_chain.specs.Chains.{first_chain, settings_in}
 use Rattle.roll_chain.specs.Sharing.{parted_until, vacant}
+use Rattle.roll_chain.specs.declared.chain.Chain.{Chain}
 use Rattle.roll_epoch.specs.Ends.{owner_of}
 use Rattle.roll_epoch.specs.declared.terms.Terms.{Terms}
 use Rattle.roll_frame.specs.declared.settings.Settings.{Settings}
@@ -42,12 +43,20 @@ pub record AreGivenBoth (given : MatchIn) (epoch : EpochIn) (base : MatchSetting
   pub matched : AreMatched given true base
   pub terms_are : AreTermsOf epoch terms
 
+-- how a match goes on from this epoch beside a session
+abbrev pub chain_in : MatchSettings → Terms → (comers : ℕ) → Seen → Chain
+chain_in base terms comers s = first_chain base s.settings.profile terms comers
+
+-- with which settings its network opens
+abbrev pub opening_of : Chain → MatchSettings
+opening_of chain = settings_in chain chain.terms
+
 -- a peer that was opened beside a session for this epoch, and regards as gone whoever owns no player in it
-pub record IsOpenedWithout (base : MatchSettings) (terms : Terms) (s : Seen) (peer : Peered) : Type 0 where
+pub record IsOpenedWithout (chain : Chain) (s : Seen) (peer : Peered) : Type 0 where
   pub first : Peered
-  pub opened : IsOpenedAs s (settings_in base terms) first
+  pub opened : IsOpenedAs s (opening_of chain) first
   pub tied : IsTied s first.member.mesh
-  pub without : peer ≡ parted_until (vacant terms) MACHINE_LIMIT first
+  pub without : peer ≡ parted_until (vacant chain.terms) MACHINE_LIMIT first
 
 -- a peer of this match, opened beside a session for this epoch, that has heard nothing, nothing waits, and it carries nothing yet
 pub record IsLasting (given : MatchIn) (epoch : EpochIn) (s : Seen) (network : Network) : Type 0 where
@@ -55,12 +64,12 @@ pub record IsLasting (given : MatchIn) (epoch : EpochIn) (s : Seen) (network : N
   pub terms : Terms
   pub are : AreGivenBoth given epoch base terms
   pub played : is_played terms s.settings base.me ≡ true
-  pub accepted : join_refusal s (seat_of (settings_in base terms)) ≡ None
+  pub accepted : join_refusal s (seat_of (opening_of (chain_in base terms given.comers s))) ≡ None
   pub drawn : base.draw ≢ 0
-  pub opened : IsOpenedWithout base terms s network.peer
+  pub opened : IsOpenedWithout (chain_in base terms given.comers s) s network.peer
   pub held : IsHeldFor given.held_turns network.held
   pub carrying : IsCarryingFor network.peer network.relay
-  pub epochs : network.epochs ≡ Some (record { chain = first_chain base s.settings.profile terms; past = None })
+  pub epochs : network.epochs ≡ Some (record { chain = chain_in base terms given.comers s; past = None })
 
 -- the session isn't one of this epoch
 pub record IsUneven (given : MatchIn) (epoch : EpochIn) (s : Seen) : Type 0 where
@@ -75,7 +84,7 @@ pub record IsUnopened (given : MatchIn) (epoch : EpochIn) (s : Seen) (code : ℤ
   pub terms : Terms
   pub are : AreGivenBoth given epoch base terms
   pub fault : OpenRefusal
-  pub why : IsWhyNot s (settings_in base terms) fault
+  pub why : IsWhyNot s (opening_of (chain_in base terms given.comers s)) fault
   pub code_is : code ≡ pos (code_of_open fault)
 
 -- why no peer is opened beside a session: another version's match or epoch; numbers with no room where they belong, or of another

@@ -1,24 +1,22 @@
 //! Calls of an open peer whose match goes on in epochs.
 ghost use Rattle.std.specs.Prelude.{◌≡◌, true, false, option_map};
 ghost use Rattle.fazgrond_c.specs.Handles.{Fills};
-ghost use Rattle.fazgrond_c.specs.Epochs.{asking_in, asks_in, epoch_in, is_over_in, judged_network, newcomer_at, stayed_in, GoesOnBeside, GoesOnFrom, GoesOnJudged, IsAnsweredIn, IsHeardBefore, IsMarked, IsMarkedIn, IsNextBefore, IsNextIn, IsSentBefore};
+ghost use Rattle.fazgrond_c.specs.Epochs.{epoch_in, is_over_in, judged_network, stayed_in, GoesOnBeside, GoesOnFrom, GoesOnJudged, IsHeardBefore, IsMarked, IsMarkedIn, IsNextBefore, IsNextIn, IsSentBefore};
 
 use crate::calls::{NOTHING, OTHER_VERSION, PENDING, TOO_SHORT};
 use crate::carrying;
-use crate::epoch_kinds::{AskOut, EpochIn, MARK_SIZE, MarkIn};
+use crate::epoch_kinds::{EpochIn, MARK_SIZE, MarkIn};
 use crate::live::Live;
 use crate::network::Network;
 use crate::peer_calls::{code_of_receipt, write_sent};
 use crate::peer_refusal::{NOT_SEALED, code_of_mark, code_of_seam};
 use crate::waiting_calls::hand_over;
 use arrayvec::ArrayVec;
-use roll_chain::Chain;
 use roll_frame::Refusal;
-use roll_peer::Peer;
 use roll_requests::JOBS_OUT;
 use roll_seam::Epochs;
 use roll_session::Networked;
-use roll_wire::{DATAGRAM_LIMIT, Mark, Newcomer};
+use roll_wire::{DATAGRAM_LIMIT, Mark};
 use std::alloc::Global;
 
 /// Hears bytes that aren't sealed for this epoch in the one before.
@@ -99,46 +97,6 @@ fn mark_told(network: &mut Network, live: &Live, player: u8, mark: Mark) -> i32
     match network.peer.mark(&live.session, player, mark) {
         Ok(_) => 0,
         Err(why) => code_of_mark(why),
-    }
-}
-
-/// Who asks to come, if somebody does.
-pub fn asking(network: &Network) -> Option<AskOut>
-    ensures { result ≡ asking_in network.now }
-{
-    match &network.epochs {
-        Some(epochs) => asks_in(&network.peer, &epochs.chain),
-        None => None,
-    }
-}
-
-/// Who asks to come in an epoch, if somebody does.
-fn asks_in(peer: &Peer, chain: &Chain) -> Option<AskOut>
-    ensures { result ≡ asks_in peer.now chain.now }
-{
-    let player = chain.asks(peer)?;
-    let newcomer = newcomer_at(peer, player)?;
-    Some(AskOut::of(player, &newcomer))
-}
-
-/// Who is to come by the mark of a player, counted from 1.
-fn newcomer_at(peer: &Peer, player: u8) -> Option<Newcomer>
-    ensures { result ≡ newcomer_at peer.now player }
-{
-    let marked = (*peer.marks().get(usize::from(player).saturating_sub(1))?)?;
-    marked.mark.newcomer
-}
-
-/// Whoever is to come by a player's mark is welcome, or not.
-pub fn answer(network: &mut Network, player: u8, is_welcome: bool) -> i32
-    ensures { IsAnsweredIn player is_welcome network.old network.new result }
-{
-    match &mut network.epochs {
-        Some(epochs) => {
-            epochs.chain.answer(player, is_welcome);
-            0
-        }
-        None => NOTHING,
     }
 }
 

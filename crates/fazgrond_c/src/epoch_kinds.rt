@@ -1,7 +1,7 @@
 //! What C sees of epochs and marks.
 ghost use Rattle.std.specs.Prelude.{◌≡◌, ℕ, false, IfNone, IfSome, slice_index};
 ghost use Rattle.roll_peer.specs.Marks.{each_player};
-ghost use Rattle.fazgrond_c.specs.EpochKinds.{ask_out, count_at, delay_at, delay_in, epoch_out, flag_at, is_delay, newcomer_in, AreTermsOf, IsEpochFaulty, IsMarkFaulty, IsMarkOf};
+ghost use Rattle.fazgrond_c.specs.EpochKinds.{delay_at, delay_in, epoch_out, flag_at, is_delay, newcomer_in, AreTermsOf, IsEpochFaulty, IsMarkFaulty, IsMarkOf};
 
 use crate::peer_kinds::bytes_of;
 use roll_epoch::Terms;
@@ -171,38 +171,4 @@ fn delay_in(number: u32) -> Option<u8>
     ensures { result ≡ delay_in number }
 {
     u8::try_from(number).ok()
-}
-
-/// Who asks to come by a player's mark.
-#[repr(C)]
-#[derive(Drop)]
-pub struct AskOut {
-    pub ticket: u64,
-    /// The player, counted from 1.
-    pub player: u32,
-    pub comes: [u32; PLAYER_LIMIT],
-}
-
-impl AskOut {
-    /// By this player's mark.
-    pub fn of(player: u8, newcomer: &Newcomer) -> AskOut
-        ensures { result ≡ ask_out player newcomer.now }
-    {
-        AskOut {
-            ticket: newcomer.ticket,
-            player: u32::from(player),
-            comes: counts_of(&newcomer.players),
-        }
-    }
-}
-
-/// 1 for each that is there.
-fn counts_of(flags: &[bool; PLAYER_LIMIT]) -> [u32; PLAYER_LIMIT]
-    ensures { result ≡ each_player (count_at flags.now) }
-{
-    let mut counts = [0; PLAYER_LIMIT];
-    for place in 0..PLAYER_LIMIT {
-        counts[place] = u32::from(flags[place]);
-    }
-    counts
 }

@@ -1,24 +1,24 @@
 //! Matches that go on in epochs, for games in other languages.
-ghost use Rattle.std.specs.Prelude.{◌≡◌, ◌≢◌, ◌<◌, not, ◌==◌, None, IfErr, IfOk, OnOk};
-ghost use Rattle.roll_chain.specs.Chains.{first_chain, settings_in};
+ghost use Rattle.std.specs.Prelude.{◌≡◌, ◌≢◌, ◌<◌, None, IfErr, IfOk, OnOk};
+ghost use Rattle.roll_chain.specs.Comers.{ticket_for};
 ghost use Rattle.roll_member.specs.Joined.{join_refusal};
 ghost use Rattle.roll_peer.specs.Peered.{IsWhyNot};
 ghost use Rattle.roll_peer.specs.Settings.{seat_of};
 ghost use Rattle.roll_mesh.specs.declared.limits.TheConstants.{PLAYER_LIMIT};
 ghost use Rattle.fazgrond_c.specs.Handles.{network_in, FillsBy, Makes, MakesBeside, ReadsSome, Writes, WritesBeside};
-ghost use Rattle.fazgrond_c.specs.Epochs.{asking_in, epoch_in, stayed_in, GoesOnBeside, IsAnsweredIn, IsMarkedIn, IsSentBefore};
-ghost use Rattle.fazgrond_c.specs.Lasting.{are_delayed, is_delayed, is_played, IsOpenedLasting, IsOpenedWithout, OpensLasting};
+ghost use Rattle.fazgrond_c.specs.Epochs.{epoch_in, stayed_in, GoesOnBeside, IsMarkedIn, IsSentBefore};
+ghost use Rattle.fazgrond_c.specs.Lasting.{are_delayed, chain_in, is_delayed, is_played, opening_of, IsOpenedLasting, IsOpenedWithout, OpensLasting};
 
 use crate::calls::{CLOSED, NOTHING, OTHER_VERSION, open_in};
 use crate::epoch_calls;
-use crate::epoch_kinds::{AskOut, EPOCH_SIZE, EpochIn, MarkIn};
+use crate::epoch_kinds::{EPOCH_SIZE, EpochIn, MarkIn};
 use crate::handle::Handle;
 use crate::live::Live;
 use crate::network::Network;
 use crate::open::Open;
 use crate::peer_kinds::{MATCH_SIZE, MatchIn};
 use crate::peer_refusal::code_of_open;
-use roll_chain::Chain;
+use roll_chain::{Chain, ticket_for};
 use roll_epoch::Terms;
 use roll_frame::{Refusal, Settings};
 use roll_mesh::PLAYER_LIMIT;
@@ -73,7 +73,7 @@ fn open_beside(
     if !is_played(&terms, live.session.settings(), base.me) {
         return Refusal::InvalidRequest.code();
     }
-    let (peer, epochs) = match open_epochs(alloc, live, base, terms) {
+    let (peer, epochs) = match open_epochs(alloc, live, base, terms, given.comers) {
         Ok(opened) => opened,
         Err(why) => return code_of_open(why),
     };
@@ -93,18 +93,19 @@ fn open_epochs(
     live: &Live,
     base: MatchSettings,
     terms: Terms,
+    comers: u64,
 ) -> Result<(Peer, Epochs<Ended>), OpenRefusal>
-    ensures opened { IfOk result (λ it. IsOpenedWithout base terms live.now.session.seen it.0) }
-    ensures epochs { IfOk result (λ it. it.1 ≡ record {
-      chain = first_chain base live.now.session.seen.settings.profile terms;
-      past = None;
-    }) }
-    ensures accepted { OnOk result
-        (join_refusal live.now.session.seen (seat_of (settings_in base terms)) ≡ None) }
+    ensures opened { IfOk result
+        (λ it. IsOpenedWithout (chain_in base terms comers live.now.session.seen) live.now.session.seen it.0) }
+    ensures epochs { IfOk result
+        (λ it. it.1 ≡ record { chain = chain_in base terms comers live.now.session.seen; past = None }) }
+    ensures accepted { OnOk result (join_refusal live.now.session.seen
+        (seat_of (opening_of (chain_in base terms comers live.now.session.seen))) ≡ None) }
     ensures drawn { OnOk result (base.draw ≢ 0) }
-    ensures refused { IfErr result (IsWhyNot live.now.session.seen (settings_in base terms)) }
+    ensures refused { IfErr result
+        (IsWhyNot live.now.session.seen (opening_of (chain_in base terms comers live.now.session.seen))) }
 {
-    let chain = Chain::new(base, live.session.settings().profile, terms);
+    let chain = Chain::new(base, live.session.settings().profile, terms, comers);
     match Peer::open(alloc, &live.session, chain.settings()) {
         Ok(mut peer) => {
             chain.leave_out(&mut peer);
@@ -233,51 +234,12 @@ pub extern "C" fn fazgrond_peer_mark(
     code
 }
 
-/// Who asks to come.
+/// The ticket by which one of this name may come to a match with this number of comers.
 #[unsafe(no_mangle)]
-pub extern "C" fn fazgrond_peer_ask(alloc: Global, handle: &mut Handle, ask: &mut AskOut) -> i32
-    ensures { ReadsSome network_in asking_in handle.old.hold.value handle.new.hold.value
-        ask.old ask.new result }
+pub extern "C" fn fazgrond_ticket(comers: u64, name: u32) -> u64
+    ensures { result ≡ ticket_for comers name }
 {
-    let Some(held) = handle.take(alloc) else {
-        return CLOSED;
-    };
-    let Open::Peer(network) = &*held else {
-        handle.put(held);
-        return CLOSED;
-    };
-    let there = epoch_calls::asking(network);
-    handle.put(held);
-    match there {
-        Some(there) => {
-            *ask = there;
-            0
-        }
-        None => NOTHING,
-    }
-}
-
-/// Says whether whoever is to come by a player's mark is welcome.
-#[unsafe(no_mangle)]
-pub extern "C" fn fazgrond_peer_answer(
-    alloc: Global,
-    handle: &mut Handle,
-    player: u8,
-    is_welcome: u32,
-) -> i32
-    ensures { Makes network_in (IsAnsweredIn player (not (is_welcome == 0))) handle.old.hold.value
-        handle.new.hold.value result }
-{
-    let Some(mut held) = handle.take(alloc) else {
-        return CLOSED;
-    };
-    let Open::Peer(network) = &mut *held else {
-        handle.put(held);
-        return CLOSED;
-    };
-    let code = epoch_calls::answer(network, player, is_welcome != 0);
-    handle.put(held);
-    code
+    ticket_for(comers, name)
 }
 
 /// Goes on in the next epoch, if this one is over.

@@ -45,7 +45,7 @@ mod windows;
 ghost use Rattle.fazgrond_c.specs.Texts.{sentence_of, version_of};
 
 pub use calls::{CLOSED, NOTHING, OTHER_VERSION, PENDING, TOO_SHORT};
-pub use epoch_kinds::{AskOut, EPOCH_SIZE, EpochIn, MARK_SIZE, MarkIn};
+pub use epoch_kinds::{EPOCH_SIZE, EpochIn, MARK_SIZE, MarkIn};
 pub use habits::ForeseenOut;
 pub use handle::Handle;
 pub use kinds::{EntryOut, ReachedOut, RequestOut, RowOut, SETTINGS_SIZE, SettingsIn};
@@ -61,9 +61,9 @@ use texts::{sentence_of, write_front};
 /// The version of the library: its major, minor and patch numbers, the last two in 8 bits each.
 #[unsafe(no_mangle)]
 pub extern "C" fn fazgrond_version() -> u32
-    ensures { result ≡ version_of 0 1 3 }
+    ensures { result ≡ version_of 0 2 0 }
 {
-    0x00_01_03
+    0x00_02_00
 }
 
 /// Writes the sentence for the number of an answer or of an event, as much as the buffer has room for, and says how long it is: 0 if

@@ -8,9 +8,9 @@ use roll_mesh::MACHINE_LIMIT;
 use roll_peer::{Field, MatchSettings, PeerEvent, Stats};
 
 /// How many bytes `MatchIn` takes.
-pub const MATCH_SIZE: u32 = 152;
+pub const MATCH_SIZE: u32 = 160;
 
-const _: () = prove!(size_of::<MatchIn>() == 152);
+const _: () = prove!(size_of::<MatchIn>() == 160);
 
 /// How a peer is opened beside a session.
 #[repr(C)]
@@ -21,6 +21,8 @@ pub struct MatchIn {
     pub numbers: [u64; MACHINE_LIMIT],
     pub draw: u64,
     pub digest: u64,
+    /// By what it is known who may come to a match that goes on; 0: anybody may.
+    pub comers: u64,
     pub me: u32,
     pub machines: u32,
     pub owners: [u32; PLAYER_LIMIT],

@@ -1,6 +1,6 @@
 //! Texts of `--help` and `--version`.
 
-pub const VERSION: &str = "0.1.3";
+pub const VERSION: &str = "0.2.0";
 
 pub const PROGRAM: &str = "\
 Plays scripts and matches of rollback sessions, tests games, and checks the claims of rollbacks.
@@ -183,8 +183,8 @@ It prints, and after it the line for scripts:
   1               1          2        27         2        64         0       256       254       1795
 
   machine  bytes/s to each  received      lost   ignored  round trip
-  0                   1865        77         4         1      167 ms
-  1                   1769        74         0         0      184 ms
+  0                   1914        77         4         1      167 ms
+  1                   1820        74         0         0      184 ms
 
   all 2 that stay agree: frame 60 settled, state 111
 

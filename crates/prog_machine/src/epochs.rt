@@ -72,7 +72,7 @@ fn chain_of(options: &PeersOptions, settings: MatchSettings, terms: Terms) -> Ch
     } else {
         Profile::Ggpo
     };
-    Chain::new(settings, profile, terms)
+    Chain::new(settings, profile, terms, 0)
 }
 
 /// The terms of the first epoch: each machine owns its player, but that of who comes later is free.
@@ -156,16 +156,6 @@ fn is_to_come(options: &PeersOptions, peer: &Peer, frame: u32, machine: u8) -> b
 /// Whether this machine is the lowest that is there.
 pub fn is_lowest(peer: &Peer, me: u8) -> bool {
     (0..me).all(|machine| peer.mesh().is_gone(machine))
-}
-
-/// Says that whoever is to come is welcome.
-pub fn welcome<S: Networked>(epochs: &mut Epochs<S>, peer: &Peer) {
-    for _ in 0..PLAYER_LIMIT {
-        let Some(player) = epochs.chain.asks(peer) else {
-            return;
-        };
-        epochs.chain.answer(player, true);
-    }
 }
 
 /// The first machine that is in this epoch and wasn't in the one before.

@@ -20,7 +20,7 @@ use crate::digest::digest_of;
 use crate::enemy::{Enemy, Trick};
 use crate::epochs::{
     Bases, base_of, comer_in, comer_to_come, delay_to_come, first_bases, first_chain, frame_in,
-    go_on, is_lowest, keep_rows, later_chain, mark_for, welcome,
+    go_on, is_lowest, keep_rows, later_chain, mark_for,
 };
 use crate::guessing::guess_best;
 use crate::guest::Guest;
@@ -321,7 +321,6 @@ impl<G: Shown + Drop> Machine<G> {
         let Some(epochs) = &mut self.epochs else {
             return Ok(());
         };
-        welcome(epochs, &self.peer);
         if !go_on(
             alloc,
             epochs,

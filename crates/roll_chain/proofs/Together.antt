@@ -318,9 +318,9 @@ module _ (match : Match) (games : ℕ → Step) (peers : PeerWorld) (played : Is
 
   -- ---- two machines where the epoch is over
 
-  module _ (test : ℕ → Bool) (i j : ℕ) (a b : Beside) (one other : Chain) (e f : Ending)
-      (ends_a : EndsSo test peers i a one e) (ends_b : EndsSo test peers j b other f) (here_a : IsHere a j) (here_b : IsHere b i)
-      (terms : one.terms ≡ other.terms) (profile : one.profile ≡ other.profile)
+  module _ (i j : ℕ) (a b : Beside) (one other : Chain) (e f : Ending)
+      (ends_a : EndsSo peers i a one e) (ends_b : EndsSo peers j b other f) (here_a : IsHere a j) (here_b : IsHere b i)
+      (terms : one.terms ≡ other.terms) (profile : one.profile ≡ other.profile) (comers : one.comers ≡ other.comers)
       (end : ℕ) (low_a : end ≤ rows_known a.peer.member.mesh) (low_b : end ≤ rows_known b.peer.member.mesh) where
     of_a : (p : ℕ) → p < PLAYER_LIMIT → nobody p ≡ false → IsOf a p end
     of_a p l t = is_of i a p end ends_a.is l t low_a
@@ -348,11 +348,9 @@ module _ (match : Match) (games : ℕ → Step) (peers : PeerWorld) (played : Is
             options_same (in_rows end (left_in a.peer.member.mesh p) (counted_at a.peer p))
             (in_rows end (left_in b.peer.member.mesh p) (counted_at b.peer p))
             (λ mark. counts_too i j a b p end mark ends_a.is ends_b.is here_a here_b l (of_a p l some) (of_b p l some)
-            (λ x y. judged_alike test one other a.peer b.peer p mark l x y terms profile ends_a.judged ends_b.judged
-            ends_a.answered ends_b.answered ends_a.over.ending.asked ends_b.over.ending.asked))
+            (λ x y. judged_alike one other a.peer b.peer p mark l x y terms profile comers ends_a.judged ends_b.judged))
             (λ mark. counts_too j i b a p end mark ends_b.is ends_a.is here_b here_a l (of_b p l some) (of_a p l some)
-            (λ x y. judged_alike test other one b.peer a.peer p mark l x y (sym terms) (sym profile) ends_b.judged ends_a.judged
-            ends_b.answered ends_a.answered ends_b.over.ending.asked ends_a.over.ending.asked))
+            (λ x y. judged_alike other one b.peer a.peer p mark l x y (sym terms) (sym profile) (sym comers) ends_b.judged ends_a.judged))
 
     are_alike : AreAlike (told_by one a.peer) (told_by other b.peer) end
     are_alike = record {
@@ -395,7 +393,7 @@ module _ (match : Match) (games : ℕ → Step) (peers : PeerWorld) (played : Is
 -- ---- the law
 
 pub they_go_on_together : TheyGoOnTogether
-they_go_on_together match games test peers i j a b one other e f played ends_a ends_b here_a here_b terms profile =
+they_go_on_together match games peers i j a b one other e f played ends_a ends_b here_a here_b terms profile comers =
     (same, next)
   where
     mesh_a : Seated
@@ -420,12 +418,12 @@ they_go_on_together match games test peers i j a b one other e f played ends_a e
     go (inl before) =
         ends_are_one (told_by other b.peer) (rows_known mesh_b) e f
         (of_one_past_one_end (told_by one a.peer) (told_by other b.peer) e.frame (rows_known mesh_a) (rows_known mesh_b) e
-        (are_alike match games peers played test i j a b one other e f ends_a ends_b here_a here_b terms profile e.frame low_e
+        (are_alike match games peers played i j a b one other e f ends_a ends_b here_a here_b terms profile comers e.frame low_e
         (omega (arith, before, low_f))) (omega arith) (omega (arith, before, low_f)) end_a) end_b
     go (inr after) =
         sym (ends_are_one (told_by one a.peer) (rows_known mesh_a) f e
         (of_one_past_one_end (told_by other b.peer) (told_by one a.peer) f.frame (rows_known mesh_b) (rows_known mesh_a) f
-        (are_alike match games peers played test j i b a other one f e ends_b ends_a here_b here_a (sym terms) (sym profile)
+        (are_alike match games peers played j i b a other one f e ends_b ends_a here_b here_a (sym terms) (sym profile) (sym comers)
         f.frame low_f (omega (arith, after, low_e))) (omega arith) (omega (arith, after, low_e)) end_b) end_a)
 
     same : e ≡ f
@@ -434,6 +432,6 @@ they_go_on_together match games test peers i j a b one other e f played ends_a e
     next : next_terms one a.peer e ≡ next_terms other b.peer f
     next =
         of_one_past_one_next one.terms e (lefts mesh_a) (lefts mesh_b)
-        (left_alike match games peers played test i j a b one other e f ends_a ends_b here_a here_b terms profile e.frame low_e
+        (left_alike match games peers played i j a b one other e f ends_a ends_b here_a here_b terms profile comers e.frame low_e
         (omega (arith, low_f, ap (λ (x : Ending). x.frame) same)))
         ∙ (λ k. successor (terms k) (same k) (lefts mesh_b))

@@ -1,15 +1,14 @@
--- A match that goes on in epochs, as one machine knows it: what stays the same over all epochs, how this one opened, who of those that are
--- to come is welcome, and which machines of the epoch before are in it.
-use Rattle.std.specs.Prelude.{ℕ, ◌-◌, ◌||◌, ◌&&◌, ◌==◌, List, map, Bool, true, false, nat_lt, None, Some, replicate, slice_index, slice_set, if◌then◌else◌}
+-- A match that goes on in epochs, as one machine knows it: what stays the same over all epochs, among it the number by which it is known
+-- who may come; how this one opened, and which machines of the epoch before are in it.
+use Rattle.std.specs.Prelude.{ℕ, ◌||◌, ◌&&◌, ◌==◌, List, map, Bool, true, false, nat_lt, replicate, slice_index}
 use Rattle.std.specs.List.{list_all, list_any, range_with_len}
-use Rattle.roll_epoch.specs.Ids.{key_of}
+use Rattle.roll_epoch.specs.Ids.{hash_of, key_of}
 use Rattle.roll_epoch.specs.Seats.{machines_to, owners_with_absent}
 use Rattle.roll_epoch.specs.declared.terms.Terms.{Terms}
 use Rattle.roll_frame.specs.declared.profile.Profile.{Profile}
 use Rattle.roll_mesh.specs.Machines.{is_in, owner_of}
 use Rattle.roll_mesh.specs.Meshes.{Seated}
 use Rattle.roll_mesh.specs.declared.limits.TheConstants.{MACHINE_LIMIT, PLAYER_LIMIT}
-use Rattle.roll_peer.specs.Marking.{is_numbered}
 use Rattle.roll_peer.specs.Peered.{Peered}
 use Rattle.roll_peer.specs.Sending.{is_lost}
 use Rattle.roll_peer.specs.declared.settings.MatchSettings.{MatchSettings}
@@ -17,12 +16,12 @@ use Rattle.roll_chain.specs.declared.chain.Chain.{Chain}
 
 -- ---- the epoch
 
-abbrev pub first_chain : MatchSettings → Profile → Terms → Chain
-first_chain base profile terms = record {
+abbrev pub first_chain : MatchSettings → Profile → Terms → (comers : ℕ) → Chain
+first_chain base profile terms comers = record {
   base = base;
   profile = profile;
   terms = terms;
-  welcome = replicate PLAYER_LIMIT None;
+  comers = comers;
   stays = replicate MACHINE_LIMIT false;
 }
 
@@ -31,22 +30,15 @@ abbrev pub numbers_in : List ℕ → ℕ → List ℕ
 numbers_in base id = map (λ m. key_of (slice_index base m) id) (range_with_len 0 MACHINE_LIMIT)
 
 -- with which settings the network of an epoch opens: each player that nobody owns is of a machine that is absent
-abbrev pub settings_in : MatchSettings → Terms → MatchSettings
-settings_in base terms = record base {
+abbrev pub settings_in : Chain → Terms → MatchSettings
+settings_in chain terms = record chain.base {
   machines = machines_to (owners_with_absent terms.owners) PLAYER_LIMIT;
   owners = owners_with_absent terms.owners;
-  numbers = numbers_in base.numbers terms.id;
+  numbers = numbers_in chain.base.numbers terms.id;
+  digest = hash_of chain.base.digest chain.comers;
   words = terms.words;
   takes_marks = true;
 }
-
--- ---- what it is told
-
--- whoever is to come by a player's mark is welcome, or not
-abbrev pub answered : Chain → ℕ → Bool → Chain
-answered chain player is_welcome =
-    if is_numbered player
-    then record chain { welcome = slice_set chain.welcome (player - 1) (Some is_welcome) } else chain
 
 -- ---- who was there before
 

@@ -1,3 +1,4 @@
+pub mod Comers
 pub mod Chains
 pub mod Rows
 pub mod Judging

@@ -83,6 +83,5 @@ opening_after s chain peer e = record {
 abbrev pub followed_by : Chain → Opening → Chain
 followed_by chain opening = record chain {
   terms = opening.terms;
-  welcome = replicate PLAYER_LIMIT None;
   stays = stay_where opening.seating;
 }

@@ -2,9 +2,9 @@
 ghost use Rattle.std.specs.Prelude.{◌≡◌, ◌<◌, true};
 ghost use Rattle.std.specs.List.{list_all, list_any, range_with_len};
 ghost use Rattle.roll_mesh.specs.declared.limits.TheConstants.{MACHINE_LIMIT, PLAYER_LIMIT};
-ghost use Rattle.roll_chain.specs.Chains.{answered, first_chain, has_given, has_stayed, is_past_over, is_seen, is_word_of, numbers_in, settings_in};
+ghost use Rattle.roll_chain.specs.Chains.{first_chain, has_given, has_stayed, is_past_over, is_seen, is_word_of, numbers_in, settings_in};
 
-use roll_epoch::{Terms, key_of};
+use roll_epoch::{Terms, hash_of, key_of};
 use roll_frame::Profile;
 use roll_mesh::{MACHINE_LIMIT, Mesh, PLAYER_LIMIT};
 use roll_peer::{MatchSettings, Peer};
@@ -13,7 +13,7 @@ use roll_peer::{MatchSettings, Peer};
 /// of this epoch, a [`Peer`], and the session beside both: give its calls always the same ones.
 ///
 /// A program opens it for the epoch in which it begins, and the peer with its `settings`. In each turn, before that of the peer, it calls
-/// `judge`, answers who `asks` to come, and calls `over`. When the epoch is over, it starts the session of the next one as `opening` says,
+/// `judge`, and calls `over`. When the epoch is over, it starts the session of the next one as `opening` says,
 /// and calls `follow`. The peer of the epoch before and its session it keeps as long as `is_past_over` is false: it sends what that peer
 /// sends, too, gives it what this one finds not sealed, and calls `share` in each turn, before that of the peer. So who hasn't come yet is
 /// told how the epoch before ended, and isn't silent in this one.
@@ -22,21 +22,22 @@ pub struct Chain {
     pub(crate) base: MatchSettings,
     pub(crate) profile: Profile,
     pub(crate) terms: Terms,
-    pub(crate) welcome: [Option<bool>; PLAYER_LIMIT],
+    pub(crate) comers: u64,
     pub(crate) stays: [bool; MACHINE_LIMIT],
 }
 
 impl Chain {
     /// A match that begins here with an epoch of these terms. Of the settings each epoch has its own owners, machines and numbers; all
-    /// else is the match's. The profile is that of the sessions.
-    pub fn new(base: MatchSettings, profile: Profile, terms: Terms) -> Chain
-        ensures { result ≡ first_chain base profile terms }
+    /// else is the match's. The profile is that of the sessions. By the number of comers, 64 bits that all machines of the match know, those
+    /// are known who may come: see [`ticket_for`]. If it is 0, anybody may by whose mark a machine of the match has somebody come.
+    pub fn new(base: MatchSettings, profile: Profile, terms: Terms, comers: u64) -> Chain
+        ensures { result ≡ first_chain base profile terms comers }
     {
         Chain {
             base,
             profile,
             terms,
-            welcome: [None; PLAYER_LIMIT],
+            comers,
             stays: [false; MACHINE_LIMIT],
         }
     }
@@ -50,18 +51,23 @@ impl Chain {
 
     /// With which settings the network of this epoch opens.
     pub fn settings(&self) -> MatchSettings
-        ensures { result ≡ settings_in self.now.base self.now.terms }
+        ensures { result ≡ settings_in self.now self.now.terms }
     {
-        settings_in(&self.base, &self.terms)
+        self.settings_in(&self.terms)
     }
 
-    /// Whether whoever is to come by the mark of a player, counted from 1, is welcome: what the program's own test of its ticket says. It
-    /// has to say the same at all machines. Nothing happens if there is no such player.
-    pub fn answer(&mut self, player: u8, is_welcome: bool)
-        ensures { self.new ≡ answered self.old player is_welcome }
+    /// With which settings the network of an epoch opens.
+    pub(crate) fn settings_in(&self, terms: &Terms) -> MatchSettings
+        ensures { result ≡ settings_in self.now terms.now }
     {
-        if player != 0 && usize::from(player) <= PLAYER_LIMIT {
-            self.welcome[usize::from(player) - 1] = Some(is_welcome);
+        MatchSettings {
+            machines: terms.machines(),
+            owners: terms.owners_with_absent(),
+            numbers: numbers_in(&self.base.numbers, terms.id),
+            digest: hash_of(self.base.digest, self.comers),
+            words: terms.words,
+            takes_marks: true,
+            ..self.base
         }
     }
 
@@ -111,20 +117,6 @@ fn is_word_of(mesh: &Mesh, machine: u8, player: usize) -> bool
     ensures { result ≡ is_word_of mesh.now machine player }
 {
     mesh.seat().owners[player] == machine && mesh.has()[player] > 0
-}
-
-/// With which settings the network of an epoch opens.
-pub(crate) fn settings_in(base: &MatchSettings, terms: &Terms) -> MatchSettings
-    ensures { result ≡ settings_in base.now terms.now }
-{
-    MatchSettings {
-        machines: terms.machines(),
-        owners: terms.owners_with_absent(),
-        numbers: numbers_in(&base.numbers, terms.id),
-        words: terms.words,
-        takes_marks: true,
-        ..*base
-    }
 }
 
 /// The numbers of the pairs in an epoch, by which they seal.

@@ -1,11 +1,11 @@
 //! Which marks count, and when an epoch is over.
-ghost use Rattle.std.specs.Prelude.{◌≡◌, ◌<◌, ◌≤◌, ◌+◌, is_none, IfNone, IfSome, None, Some, true};
-ghost use Rattle.std.specs.Option.{option_map};
+ghost use Rattle.std.specs.Prelude.{◌≡◌, ◌<◌, ◌≤◌, IfNone, IfSome, true};
 ghost use Rattle.roll_frame.specs.declared.limits.TheConstants.{FRAME_LIMIT};
 ghost use Rattle.roll_mesh.specs.declared.limits.TheConstants.{PLAYER_LIMIT};
-ghost use Rattle.roll_chain.specs.Judging.{brings_somebody, first_asking, is_asking, is_not_refused, is_void_by, judged_at, judged_until, IsEnding, IsOver};
+ghost use Rattle.roll_chain.specs.Judging.{is_void_by, judged_at, judged_until, IsEnding, IsOver};
 
 use crate::chain::Chain;
+use crate::comers::is_vouched;
 use crate::rows::{counted_marks, lefts, rows_known};
 use roll_epoch::{Ending, Marks, is_void};
 use roll_mesh::PLAYER_LIMIT;
@@ -14,7 +14,7 @@ use roll_session::Networked;
 use roll_wire::Marked;
 
 impl Chain {
-    /// Finds those of the known marks void that are so by the rules, or by what the program answered of who is to come.
+    /// Finds those of the known marks void that are so by the rules, or since nobody vouched for who is to come.
     #[tactic(auto, using(crate::proofs::Untils::judged_none, crate::proofs::Untils::judged_next))]
     pub fn judge(&self, peer: &mut Peer)
         ensures { peer.new ≡ judged_until self.now PLAYER_LIMIT peer.old }
@@ -41,7 +41,7 @@ impl Chain {
         let Some(marked) = marked else {
             return false;
         };
-        let is_welcome = self.welcome[player].unwrap_or(true);
+        let is_welcome = is_vouched(self.comers, marked.mark.newcomer);
         marked.mark.threshold > self.profile.threshold_limit()
             || is_void(
                 &marked.mark,
@@ -51,36 +51,11 @@ impl Chain {
             )
     }
 
-    /// The first player, counted from 1, by whose mark somebody is to come of whom the program hasn't answered yet whether it is welcome:
-    /// the epoch isn't over before.
-    pub fn asks(&self, peer: &Peer) -> Option<u8>
-        ensures { result ≡ option_map (λ p. p + 1) (first_asking self.now peer.now) }
-    {
-        for player in 0..PLAYER_LIMIT {
-            if self.is_asking(peer, player) {
-                return Some(player as u8 + 1);
-            }
-        }
-        None
-    }
-
-    fn is_asking(&self, peer: &Peer, player: usize) -> bool
-        requires { player < PLAYER_LIMIT }
-        ensures { result ≡ is_asking self.now peer.now player }
-    {
-        brings_somebody(peer.marks()[player])
-            && !peer.voids()[player]
-            && self.welcome[player].is_none()
-    }
-
-    /// Where the epoch ends, and by which mark, if that is known: all words before it are known then. None as long as somebody `asks`.
+    /// Where the epoch ends, and by which mark, if that is known: all words before it are known then.
     pub fn end(&self, peer: &Peer) -> Option<Ending>
         ensures found { IfSome result (IsEnding self.now peer.now) }
         ensures none { IfNone result ((e : Ending) → IsEnding self.now peer.now e → ⊥) }
     {
-        if self.asks(peer).is_some() {
-            return None;
-        }
         let marks = Marks {
             first: counted_marks(peer),
         };
@@ -103,15 +78,5 @@ impl Chain {
             return None;
         }
         Some(ending)
-    }
-}
-
-/// Whether somebody is to come by a mark.
-fn brings_somebody(marked: Option<Marked>) -> bool
-    ensures { result ≡ brings_somebody marked }
-{
-    match marked {
-        Some(marked) => marked.mark.newcomer.is_some(),
-        None => false,
     }
 }

@@ -3,8 +3,7 @@ ghost use Rattle.roll_chain.specs.OneNumber.{OfOneNumberOneNext};
 ghost use Rattle.roll_chain.specs.Together.{TheyGoOnTogether};
 
 /// Machines that stay together go on together: two of which neither regards the other as gone find the same end of an epoch, by the
-/// same mark, and open the next one alike, its number too, whatever the machines call and whatever the network does. Who is to come has
-/// to be judged by the same test of its ticket at both.
+/// same mark, and open the next one alike, its number too, whatever the machines call and whatever the network does.
 pub fn they_go_on_together()
     ensures { TheyGoOnTogether }
 {}

@@ -2,6 +2,7 @@
 #![tactic(auto)]
 
 mod chain;
+mod comers;
 mod judging;
 mod laws;
 mod rows;
@@ -10,5 +11,6 @@ mod seating;
 mod sharing;
 
 pub use chain::{Chain, is_seen};
+pub use comers::ticket_for;
 pub use laws::{of_one_number_one_next, they_go_on_together};
 pub use seam::Opening;

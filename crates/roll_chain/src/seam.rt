@@ -12,7 +12,7 @@ ghost use Rattle.roll_chain.specs.Chains.{settings_in};
 ghost use Rattle.roll_chain.specs.Judging.{IsOver};
 ghost use Rattle.roll_chain.specs.Seams.{followed_by, local_bits, local_delay, local_delays, opening_after, session_settings};
 
-use crate::chain::{Chain, settings_in};
+use crate::chain::Chain;
 use crate::rows::lefts;
 use crate::seating::{seating, stay_where};
 use roll_epoch::{Ending, Terms};
@@ -78,21 +78,20 @@ impl Chain {
         session: &S,
         opening: &Opening,
     ) -> Result<Peer, OpenRefusal>
-        ensures followed { OnOk result (IsFollowedAs (S.seen session.now) (settings_in self.old.base opening.now.terms)
+        ensures followed { OnOk result (IsFollowedAs (S.seen session.now) (settings_in self.old opening.now.terms)
             peer.old opening.now.seating peer.new) }
         ensures past { IfOk result (λ past. past ≡ peer.old) }
         ensures chain { OnOk result (self.new ≡ followed_by self.old opening.now) }
         ensures accepted { OnOk result (join_refusal (S.seen session.now)
-            (seat_of (settings_in self.old.base opening.now.terms)) ≡ None) }
-        ensures refused { IfErr result (IsWhyNot (S.seen session.now) (settings_in self.old.base opening.now.terms)) }
+            (seat_of (settings_in self.old opening.now.terms)) ≡ None) }
+        ensures refused { IfErr result (IsWhyNot (S.seen session.now) (settings_in self.old opening.now.terms)) }
         ensures unchanged { OnErr result (self.new ≡ self.old) }
         ensures peer { OnErr result (peer.new ≡ peer.old) }
     {
-        let settings = settings_in(&self.base, &opening.terms);
+        let settings = self.settings_in(&opening.terms);
         let next = peer.follow(alloc, session, settings, &opening.seating)?;
         *self = Chain {
             terms: opening.terms,
-            welcome: [None; PLAYER_LIMIT],
             stays: stay_where(&opening.seating),
             ..*self
         };

@@ -24,8 +24,10 @@ next_id id e left =
     first_number
     (sha256 (to_be_bytes w64 id ++ (to_be_bytes w32 e.frame ++ (mark e.mark ++ leavings e.frame left))))
 
+-- a number that comes of two
+abbrev pub hash_of : (one other : ℕ) → ℕ
+hash_of one other = first_number (sha256 (to_be_bytes w64 one ++ to_be_bytes w64 other))
+
 -- the number by which a pair seals what it sends in an epoch: in the first one the pair's own
 abbrev pub key_of : (number id : ℕ) → ℕ
-key_of number id =
-    if id == 0 then number
-    else first_number (sha256 (to_be_bytes w64 number ++ to_be_bytes w64 id))
+key_of number id = if id == 0 then number else hash_of number id

@@ -3,7 +3,7 @@ ghost use Rattle.std.specs.Prelude.{◌≡◌, ◌+◌, ◌≤◌, ◌++◌, len
 ghost use Rattle.std.specs.Int.{w32, to_be_bytes};
 ghost use Rattle.sha2.specs.Sha256.{sha256};
 ghost use Rattle.roll_mesh.specs.declared.limits.TheConstants.{PLAYER_LIMIT};
-ghost use Rattle.roll_epoch.specs.Ids.{first_number, key_of, leaving_at, leavings, next_id};
+ghost use Rattle.roll_epoch.specs.Ids.{first_number, hash_of, key_of, leaving_at, leavings, next_id};
 
 use crate::marks::Ending;
 use arrayvec::ArrayVec;
@@ -80,6 +80,13 @@ pub(crate) fn next_id(id: u64, ending: &Ending, left: &[Option<u32>; PLAYER_LIMI
     ))
 }
 
+/// The first 8 bytes of the SHA-256 of two numbers of 8 bytes each, as a number. All have the highest byte first.
+pub fn hash_of(one: u64, other: u64) -> u64
+    ensures { result ≡ hash_of one other }
+{
+    first_number(digest_of(&one.to_be_bytes(), &other.to_be_bytes(), &[], &[]))
+}
+
 /// The number of a pair of machines by which these seal what they send in an epoch of this number, if the pair's number in the match is
 /// this. Nobody sends it.
 pub fn key_of(number: u64, id: u64) -> u64
@@ -88,5 +95,5 @@ pub fn key_of(number: u64, id: u64) -> u64
     if id == 0 {
         return number;
     }
-    first_number(digest_of(&number.to_be_bytes(), &id.to_be_bytes(), &[], &[]))
+    hash_of(number, id)
 }

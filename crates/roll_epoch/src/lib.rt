@@ -10,11 +10,11 @@ mod owners;
 mod seats;
 mod terms;
 
-pub use id::key_of;
+pub use id::{hash_of, key_of};
 pub use laws::{
     ends_are_one, ends_stay, inputs_stay_whole, nobody_loses_a_player, of_one_past_one_end,
     of_one_past_one_next, players_stay, somebody_is_absent,
 };
-pub use limits::{DELAY_MOST, FIRST_DELAY, FREE, NO_MACHINE, THRESHOLD_MOST};
+pub use limits::{DELAY_MOST, FIRST_DELAY, FREE, NO_MACHINE, THRESHOLD_MOST, limits_are};
 pub use marks::{Ending, Marks, is_void};
 pub use terms::Terms;

@@ -34,7 +34,7 @@ pub record IsStartedFrom (step : Step) (o : Opening) (session started : Seen) : 
 pub record GoesOnward (step : Step) (o : Opening) (old new : Chain) (peer next : Peered) (relay carrying : Option Carrying) (session started : Seen)
     (past : Past Seen) : Type 0 where
   pub starts : IsStartedFrom step o session started
-  pub follows : IsFollowedAs started (settings_in old.base o.terms) peer o.seating next
+  pub follows : IsFollowedAs started (settings_in old o.terms) peer o.seating next
   pub chain : new ≡ followed_by old o
   pub carries : IsCarryingFor next carrying
   pub past_is : past ≡ record { peer = peer; relay = relay; session = session }
@@ -64,7 +64,7 @@ IsWhyUnopened step o chain session NotOver = ⊥
 IsWhyUnopened step o chain session (Session why) = ⊥
 IsWhyUnopened step o chain session (Network why) =
     (why ≡ NoneLeft)
-    ⊎ ((started : Seen) × IsStartedFrom step o session started × IsWhyNot started (settings_in chain.base o.terms) why)
+    ⊎ ((started : Seen) × IsStartedFrom step o session started × IsWhyNot started (settings_in chain o.terms) why)
 
 abbrev pub IsWhyNotFollowed : Step → Opening → Chain → Seen → OnwardRefusal → Type 0
 IsWhyNotFollowed step o chain session why = IsWhyNotStarted o session why ⊎ IsWhyUnopened step o chain session why

@@ -37,7 +37,7 @@ pub record IsStartedAs (settings : Settings) (limit : ℕ) (e : Asked) : Type 0 
 pub record GoesOn (o : Opening) (old new : Chain) (peer next : Peered) (relay carrying : Option Carrying) (session started : Asked)
     (past : Past Ended) (closing : List Request) : Type 0 where
   pub starts : IsStartedAs o.settings session.limit started
-  pub follows : IsFollowedAs started.seen (settings_in old.base o.terms) peer o.seating next
+  pub follows : IsFollowedAs started.seen (settings_in old o.terms) peer o.seating next
   pub chain : new ≡ followed_by old o
   pub carries : IsCarryingFor next carrying
   pub ended : IsEnded session o.end past.session closing
@@ -60,4 +60,4 @@ IsShort (Network why) = why ≡ NoneLeft
 abbrev pub IsWhyNotGone : Opening → Chain → Asked → SeamRefusal → Type 0
 IsWhyNotGone o chain session (Session why) = IsWhyNotStarted o session why ⊎ (why ≡ NoMemory)
 IsWhyNotGone o chain session (Network why) =
-    (why ≡ NoneLeft) ⊎ IsWhyNot (first_seen o.settings [] no_calls) (settings_in chain.base o.terms) why
+    (why ≡ NoneLeft) ⊎ IsWhyNot (first_seen o.settings [] no_calls) (settings_in chain o.terms) why

@@ -5,7 +5,7 @@ use Rattle.roll_carry.specs.Carrying.{Carrying}
 use Rattle.roll_frame.specs.declared.settings.Settings.{Settings}
 use Rattle.roll_peer.specs.Peered.{Peered}
 use Rattle.roll_seam.specs.Carrying.{IsCarryingFor}
-use Rattle.fazgrond_c.specs.Lasting.{is_played, IsLasting, IsOpenedWithout}
+use Rattle.fazgrond_c.specs.Lasting.{chain_in, is_played, IsLasting, IsOpenedWithout}
 use Rattle.fazgrond_c.proofs.epochs.open_beside.Goals as goal
 
 not_open : pos 107 ≡ pos 0 → ⊥
@@ -27,6 +27,7 @@ returns c =
     let terms = c.in-Some-Some.terms in
     let base = c.in-Some-Some.base in
     let s = c.args.live.now.session.seen in
+    let chain = chain_in base terms c.args.given.now.comers s in
     let lasting : IsLasting c.args.given.now c.args.epoch.now s c.new.result = record {
       base = base;
       terms = terms;
@@ -34,7 +35,7 @@ returns c =
       played = sym (c.is_played.ensures ∙ ap (λ (x : Settings). is_played terms x base.me) c.settings-2.ensures) ∙ c.if-not-is_played.false;
       accepted = c.in-Ok.ensures.accepted;
       drawn = c.in-Ok.ensures.drawn;
-      opened = subst (λ (p : Peered). IsOpenedWithout base terms s p) (sym c.new.ensures.peer) c.in-Ok.ensures.opened;
+      opened = subst (λ (p : Peered). IsOpenedWithout chain s p) (sym c.new.ensures.peer) c.in-Ok.ensures.opened;
       held = c.new.ensures.held;
       carrying = subst (λ (p : Peered). IsCarryingFor p c.new.result.relay) (sym c.new.ensures.peer)
           (subst (λ (r : Option Carrying). IsCarryingFor c.in-Ok.opened.0 r) (sym c.new.ensures.relay) c.in-Ok-relay_for.ensures);

@@ -11,7 +11,7 @@ pub returns-in-Ok-clause-opened : goal.returns-in-Ok-clause-opened
 returns-in-Ok-clause-opened c = record {
   first = c.in-Ok.peer;
   opened = subst (λ (x : MatchSettings). IsOpenedAs c.args.live.now.session.seen x c.in-Ok.peer)
-      (c.settings-2.ensures ∙ ap (λ (x : Chain). settings_in x.base x.terms) c.new-chain.ensures) c.in-Ok.ensures.opened;
+      (c.settings-2.ensures ∙ ap (λ (x : Chain). settings_in x x.terms) c.new-chain.ensures) c.in-Ok.ensures.opened;
   tied = c.in-Ok.ensures.tied;
   without = c.leave_out.ensures
       ∙ ap (λ (x : Chain). parted_until (vacant x.terms) MACHINE_LIMIT c.in-Ok.peer) c.new-chain.ensures;

@@ -14,7 +14,7 @@ returns-clause-goes_on g c =
     record {
       starts = subst (λ (s : Seen). IsStartedFrom g.G.Game.step o c.args.session.now s) started c.in-Ok.ensures.started;
       follows =
-          subst (λ (s : Seen). IsFollowedAs s (settings_in c.args.chain.now.base o.terms) c.args.peer.now o.seating c.follow.new.peer) started
+          subst (λ (s : Seen). IsFollowedAs s (settings_in c.args.chain.now o.terms) c.args.peer.now o.seating c.follow.new.peer) started
           c.in-Ok-follow.ensures.followed;
       chain = c.in-Ok-follow.ensures.chain;
       carries = subst (λ (r : Option Carrying). IsCarryingFor c.follow.new.peer r) (sym c.replace.ensures.after) c.in-Ok-relay_for.ensures;
