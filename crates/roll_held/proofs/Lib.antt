@@ -6,3 +6,4 @@ pub mod OneMatch
 pub mod Fronts
 pub mod Pressed
 pub mod Carried
+pub mod Waiting

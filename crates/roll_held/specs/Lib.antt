@@ -1,5 +1,6 @@
 pub mod Told
 pub mod Turns
+pub mod Waits
 pub mod Pressed
 pub mod Laws
 pub mod Heard

@@ -2,6 +2,7 @@
 ghost use Rattle.std.specs.Prelude.{◌≡◌, is_none, IfErr, IfOk, IfSome, OnErr, OnOk};
 ghost use Rattle.roll_held.specs.Heard.{beside, HearsHeld, PollsHeld};
 ghost use Rattle.roll_held.specs.Told.{as_told, roomless, IsHeldFault};
+ghost use Rattle.roll_held.specs.Waits.{Waits};
 ghost use Rattle.roll_member.specs.Beside.{IsOf};
 ghost use Rattle.roll_peer.specs.Receiving.{meeting, ticking, IsOther};
 ghost use Rattle.roll_peer.specs.Sending.{after_send, is_lost, IsSent};
@@ -33,6 +34,7 @@ impl Held {
             (beside (S.seen session.old) self.old.words.items peer.old)
             (beside (S.seen session.new) self.new.words.items peer.new) now bytes.now) }
         ensures turns { self.new.turns ≡ self.old.turns }
+        ensures waits { Waits (S.seen session.old) (S.seen session.new) self.old self.new }
         ensures refused { IfErr result (IsHeldFault (S.seen session.old) self.old.words.items) }
         ensures unchanged { OnErr result ((self.new ≡ self.old) × (session.new ≡ session.old) × (peer.new ≡ peer.old)) }
         ensures keeps { S.keeps session.old session.new }
@@ -66,6 +68,7 @@ impl Held {
             (beside (S.seen session.old) self.old.words.items peer.old)
             (beside (S.seen session.new) self.new.words.items peer.new) now) }
         ensures turns { self.new.turns ≡ self.old.turns }
+        ensures waits { Waits (S.seen session.old) (S.seen session.new) self.old self.new }
         ensures refused { IfErr result (IsHeldFault (S.seen session.old) self.old.words.items) }
         ensures unchanged { OnErr result ((self.new ≡ self.old) × (session.new ≡ session.old) × (peer.new ≡ peer.old)) }
         ensures keeps { S.keeps session.old session.new }

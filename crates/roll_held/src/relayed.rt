@@ -2,6 +2,7 @@
 ghost use Rattle.std.specs.Prelude.{◌≡◌, IfErr, IfOk, OnErr};
 ghost use Rattle.roll_held.specs.Relayed.{bytes_of, relayed_beside, HearsHeldBy, SendsBy};
 ghost use Rattle.roll_held.specs.Told.{as_told, roomless, IsHeldFault};
+ghost use Rattle.roll_held.specs.Waits.{Waits};
 
 use crate::fault::HeldFault;
 use crate::held::Held;
@@ -32,6 +33,7 @@ impl Held {
             (relayed_beside (S.seen session.old) self.old.words.items peer.old relay.old)
             (relayed_beside (S.seen session.new) self.new.words.items peer.new relay.new) bytes.now) }
         ensures turns { self.new.turns ≡ self.old.turns }
+        ensures waits { Waits (S.seen session.old) (S.seen session.new) self.old self.new }
         ensures refused { IfErr result (IsHeldFault (S.seen session.old) self.old.words.items) }
         ensures unchanged { OnErr result ((self.new ≡ self.old) × (session.new ≡ session.old) × (peer.new ≡ peer.old)
             × (relay.new ≡ relay.old)) }

@@ -4,6 +4,7 @@ ghost use Rattle.roll_frame.specs.Inputs.{disconnect_tests};
 ghost use Rattle.roll_frame.specs.Refusals.{first_refusal};
 ghost use Rattle.roll_frame.specs.declared.event.Event.TheVariants.{DisconnectedFromPeer};
 ghost use Rattle.roll_held.specs.Told.{as_told, roomless, told, Fits, Takes};
+ghost use Rattle.roll_held.specs.Waits.{Waits};
 ghost use Rattle.roll_held.specs.declared.held.TheConstants.{HELD_LIMIT as MOST_HELD};
 ghost use Rattle.roll_session.specs.Changes.{after_disconnect, disconnect_refusal, reserve_refusal, FitsLog, IsRefused, IsWhy};
 
@@ -29,12 +30,12 @@ impl<'a, S: Settling> HeldSession<'a, S> {
     /// Tells the session all words that are held back.
     fn tell_all(&mut self)
         ensures none { self.new.held.now.words.items ≡ [] }
-        ensures waited { self.new.held.now.waited.items ≡ [] }
         ensures session { S.seen self.new.session.now
             ≡ told (S.seen self.old.session.now) self.old.held.now.words.items }
         ensures reserved { self.new.reserved ≡ self.old.reserved }
         ensures same_session { self.new.session.ghost_name ≡ self.old.session.ghost_name }
         ensures turns { self.new.held.now.turns ≡ self.old.held.now.turns }
+        ensures waits { Waits (S.seen self.old.session.now) (S.seen self.new.session.now) self.old.held.now self.new.held.now }
         ensures same_held { self.new.held.ghost_name ≡ self.old.held.ghost_name }
         ensures keeps { S.keeps self.old.session.now self.new.session.now }
     {
@@ -57,6 +58,7 @@ impl<'a, S: Settling> HeldSession<'a, S> {
         ensures reserved { self.new.reserved ≡ self.old.reserved }
         ensures same_session { self.new.session.ghost_name ≡ self.old.session.ghost_name }
         ensures turns { self.new.held.now.turns ≡ self.old.held.now.turns }
+        ensures waits { Waits (S.seen self.old.session.now) (S.seen self.new.session.now) self.old.held.now self.new.held.now }
         ensures same_held { self.new.held.ghost_name ≡ self.old.held.ghost_name }
         ensures keeps { S.keeps self.old.session.now self.new.session.now }
     {
@@ -78,6 +80,7 @@ impl<'a, S: Settling> HeldSession<'a, S> {
         ensures reserved { self.new.reserved ≡ self.old.reserved }
         ensures same_session { self.new.session.ghost_name ≡ self.old.session.ghost_name }
         ensures turns { self.new.held.now.turns ≡ self.old.held.now.turns }
+        ensures waits { Waits (S.seen self.old.session.now) (S.seen self.new.session.now) self.old.held.now self.new.held.now }
         ensures same_held { self.new.held.ghost_name ≡ self.old.held.ghost_name }
         ensures keeps { S.keeps self.old.session.now self.new.session.now }
     {
@@ -97,6 +100,7 @@ impl<'a, S: Settling> HeldSession<'a, S> {
         ensures session { self.new.session.now ≡ self.old.session.now }
         ensures same_session { self.new.session.ghost_name ≡ self.old.session.ghost_name }
         ensures turns { self.new.held.now.turns ≡ self.old.held.now.turns }
+        ensures waits { Waits (S.seen self.old.session.now) (S.seen self.new.session.now) self.old.held.now self.new.held.now }
         ensures same_held { self.new.held.ghost_name ≡ self.old.held.ghost_name }
     {
         self.reserved = self.reserved.saturating_sub(1);
@@ -137,6 +141,7 @@ impl<'a, S: Settling> HeldSession<'a, S> {
         ensures same_session { self.new.session.ghost_name ≡ self.old.session.ghost_name }
         ensures same_held { self.new.held.ghost_name ≡ self.old.held.ghost_name }
         ensures turns { self.new.held.now.turns ≡ self.old.held.now.turns }
+        ensures waits { Waits (S.seen self.old.session.now) (S.seen self.new.session.now) self.old.held.now self.new.held.now }
         ensures keeps { S.keeps self.old.session.now self.new.session.now }
     {
         if let Some(why) = self.leave_refusal(player) {
@@ -159,6 +164,7 @@ impl<'a, S: Settling> Networked for HeldSession<'a, S> {
     ghost use Rattle.std.specs.Prelude.{◌≡◌, refl};
     ghost use Rattle.std.proofs.Common.{◌∙◌};
     ghost use Rattle.roll_held.specs.Told.{as_told};
+    ghost use Rattle.roll_held.specs.Waits.{Waits, wait_itself, wait_more};
 
     ghost seen = { λ h. as_told (S.seen h.session.now) h.held.now.words.items h.reserved };
 
@@ -166,9 +172,11 @@ impl<'a, S: Settling> Networked for HeldSession<'a, S> {
 
     ghost keeps = { λ old new. (new.session.ghost_name ≡ old.session.ghost_name)
         × ((new.held.ghost_name ≡ old.held.ghost_name)
-        × ((new.held.now.turns ≡ old.held.now.turns) × S.keeps old.session.now new.session.now)) };
+        × ((new.held.now.turns ≡ old.held.now.turns)
+        × (Waits (S.seen old.session.now) (S.seen new.session.now) old.held.now new.held.now
+        × S.keeps old.session.now new.session.now))) };
 
-    ghost keeps_itself = { λ it. (refl, (refl, (refl, S.keeps_itself it.session.now))) };
+    ghost keeps_itself = { λ it. (refl, (refl, (refl, (wait_itself (S.seen it.session.now) it.held.now, S.keeps_itself it.session.now)))) };
 
     ghost keeps_on = { λ a b c one two. (
       two.0 ∙ one.0,
@@ -176,7 +184,11 @@ impl<'a, S: Settling> Networked for HeldSession<'a, S> {
         two.1.0 ∙ one.1.0,
         (
           two.1.1.0 ∙ one.1.1.0,
-          S.keeps_on a.session.now b.session.now c.session.now one.1.1.1 two.1.1.1,
+          (
+            wait_more (S.seen a.session.now) (S.seen b.session.now) (S.seen c.session.now) a.held.now b.held.now c.held.now
+                one.1.1.1.0 two.1.1.1.0,
+            S.keeps_on a.session.now b.session.now c.session.now one.1.1.1.1 two.1.1.1.1,
+          ),
         ),
       ),
     ) };

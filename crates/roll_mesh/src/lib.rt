@@ -21,7 +21,7 @@ pub use laws::{
     they_close_alike, they_get_on, they_have_what_was_given, waiters_hold_up_nobody,
     who_stays_has_as_many,
 };
-pub use limits::{INPUT_LIMIT, MACHINE_LIMIT, PLAYER_LIMIT};
+pub use limits::{INPUT_LIMIT, MACHINE_LIMIT, PLAYER_LIMIT, limits_are};
 pub use machine::Machine;
 pub use mesh::Mesh;
 pub use packet::{Offer, Packet, View};

@@ -1,10 +1,10 @@
 -- A session of a game elsewhere as its callers see it, and where its requests lead, for every game.
-use Rattle.std.specs.Prelude.{◌≡◌, ◌⊎◌, ◌≤◌, ◌^◌, ℕ, ◌+◌, ◌<◌, ◌||◌, Bool, List, [], ◌++◌, is_some, length, take, slice_index_or, All, IfSome, IsSomeAnd, Option, Some, None, Result, Ok, Err}
+use Rattle.std.specs.Prelude.{◌≡◌, ◌⊎◌, ◌≤◌, ◌^◌, ℕ, ◌+◌, ◌-◌, ◌<◌, ◌||◌, ◌==◌, Bool, true, count_by, if◌then◌else◌, List, [], ◌++◌, is_some, length, take, slice_index_or, All, IfSome, IsSomeAnd, Option, Some, None, Result, Ok, Err}
 use Rattle.std.specs.Option.{option_map_or}
 use Rattle.roll_branch.specs.Routed.{Routed}
 use Rattle.roll_frame.specs.Cells.{Rows}
 use Rattle.roll_frame.specs.Core.{cost, depth}
-use Rattle.roll_frame.specs.Events.{branch_of}
+use Rattle.roll_frame.specs.Events.{branch_of, is_accepted}
 use Rattle.roll_frame.specs.Games.{Value}
 use Rattle.roll_frame.specs.Grafts.{new_paths}
 use Rattle.roll_frame.specs.Paths.{run}
@@ -18,15 +18,16 @@ use Rattle.roll_session.specs.Calls.{event_of, IsRollTo}
 use Rattle.roll_session.specs.Changes.{after_graft, graft_refusal, IsRefused, IsWhy}
 use Rattle.roll_session.specs.Gameless.{bare_branch, still}
 use Rattle.roll_session.specs.Saves.{Standing}
-use Rattle.roll_session.specs.Seen.{IsLeast, Seen, Step}
+use Rattle.roll_session.specs.Seen.{IsLeast, Seen, Step, game_of}
 use Rattle.roll_session.specs.declared.event.Call.{Call}
 use Rattle.roll_session.specs.declared.event.Grafted.{Grafted}
 use Rattle.roll_session.specs.declared.event.Reached.{Reached}
+use Rattle.roll_session.specs.Standing.{rows_from}
 use Rattle.roll_tree.specs.SavedStates.{Saved, SavedStates, state_named}
 use Rattle.slab.specs.Slab.{Slab, get, slab_len, SameValues, Updates}
 use Rattle.roll_requests.specs.Carried.{Elsewhere, carried_out}
 use Rattle.roll_requests.specs.Planned.{LacksSlots}
-use Rattle.roll_requests.specs.Requests.{requests_of, Adds}
+use Rattle.roll_requests.specs.Requests.{is_load, requests_of, Adds}
 use Rattle.roll_requests.specs.Slotted.{free_slots, is_among, is_needed, is_taken, least_free, Guessed}
 use Rattle.roll_requests.specs.declared.declined.Declined.{Declined}
 use Rattle.roll_requests.specs.declared.declined.Declined.TheVariants.{Refused as RefusedBy, NoSlots}
@@ -83,10 +84,11 @@ pub record IsIdle (old new : Asked) : Type 0 where
   pub jobs : new.jobs ≡ old.jobs
   pub taken : new.taken ≡ old.taken
 
--- a call is refused by the rules, or memory ran out, or it needs more slots than are free
+-- a call is refused by the rules; or the rules accept it, and memory ran out, or it needs more slots than are free
 abbrev pub IsDeclinedRoll : Seen → List (Saved ℕ) → Slab Guessed → (limit : ℕ) → Call → Declined → Type 0
 IsDeclinedRoll s states jobs limit call (RefusedBy why) =
-    IsReplied still s s (event_of call) (Refused why) ⊎ (why ≡ NoMemory)
+    IsReplied still s s (event_of call) (Refused why)
+    ⊎ ((why ≡ NoMemory) × (is_accepted s.settings (game_of still s) s.core (event_of call) ≡ true))
 IsDeclinedRoll s states jobs limit call NoSlots = LacksSlots s states jobs limit call
 
 -- after a roll of so many frames those slots are taken that a state has that was saved before it, or a job, and the first so many
@@ -97,14 +99,23 @@ TakesNeeded old new count =
     ≡ (is_needed old.saves.tree.states old.jobs slot
     || is_among (least_free (is_needed old.saves.tree.states old.jobs) old.limit count) slot)
 
+-- this slot has the saved state that is the timeline's at a frame
+abbrev pub StartsIn : Standing ℕ → (from slot : ℕ) → Type 0
+StartsIn saves from slot =
+    (name : ℕ) × IsSomeAnd (state_named saves.tree name) (λ u. (u.snapshot ≡ slot)
+    × (u.path ≡ rows_from saves.inputs.players saves.inputs.settled (from - saves.inputs.settled)))
+
 -- a roll led there: it started from the frame of the deepest state on its way, and asks for the frames from there on, which are
--- the fewest that any plan runs
+-- the fewest that any plan runs; that state is loaded once, unless it is current
 pub record Rolls (old new : Asked) (call : Call) (reached : Reached) : Type 0 where
   pub is_to : IsRollTo old.seen.core call reached.frame
   pub from_is : reached.from ≡ depth old.seen.core reached.frame
   pub rerun_is : reached.rerun ≡ cost old.seen.core reached.frame
   pub least : IsLeast old.seen.core reached.frame
   pub adds : Adds old.limit (cost old.seen.core reached.frame) 0 old.jobs old.requests new.requests
+  pub start : ℕ
+  pub starts : StartsIn old.saves reached.from start
+  pub loads : count_by is_load adds.more ≡ (if old.at == start then 0 else 1)
   pub taken : TakesNeeded old new (cost old.seen.core reached.frame)
 
 -- a job has this route, and a slot for the state after each row

@@ -72,6 +72,20 @@ abbrev pub is_step_aside : Request → Bool
 is_step_aside (AdvanceAside row) = true
 is_step_aside request = false
 
+-- whether it saves a state, and whether it saves one that was run aside
+abbrev pub is_save : Request → Bool
+is_save (Save slot) = true
+is_save request = false
+
+abbrev pub is_save_aside : Request → Bool
+is_save_aside (SaveAside slot) = true
+is_save_aside request = false
+
+-- whether it makes another state current
+abbrev pub is_load : Request → Bool
+is_load (Load slot) = true
+is_load request = false
+
 -- a request leaves what is in this slot
 abbrev pub Leaves : ℕ → Request → Type 0
 Leaves slot (Save other) = slot ≢ other
@@ -98,13 +112,15 @@ IsBegun (SaveAside slot ∷ requests) = ⊥
 IsBegun (AdvanceAside row ∷ requests) = ⊥
 IsBegun (request ∷ requests) = IsBegun requests
 
--- requests were added that run so many frames, and so many aside, save states only in slots below the limit, and are nothing to
--- the jobs that are out
+-- requests were added that run so many frames, and so many aside, save as many states, only in slots below the limit, and are
+-- nothing to the jobs that are out
 pub record Adds (limit run aside : ℕ) (jobs : Slab Guessed) (old new : List Request) : Type 0 where
   pub more : List Request
   pub list_is : new ≡ old ++ more
   pub below : All (IsBelow limit) more
   pub run_is : count_by is_step more ≡ run
   pub aside_is : count_by is_step_aside more ≡ aside
+  pub saves_are : count_by is_save more ≡ run
+  pub saves_aside_are : count_by is_save_aside more ≡ aside
   pub begun : IsBegun more
   pub apart : (n : ℕ) (job : Guessed) → get jobs n ≡ Some job → All (IsApart job) more

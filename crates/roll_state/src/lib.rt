@@ -22,7 +22,7 @@ pub use laws::{
     givers_send_what_is_asked, one_text, read_again, takers_ask_for_what_is_missing,
     takers_hold_what_was_given,
 };
-pub use limits::{ASK_LIMIT, PIECE_LIMIT};
+pub use limits::{ASK_LIMIT, PIECE_LIMIT, limits_are};
 pub use name::StateName;
 pub use reading::decode;
 pub use refusal::{StateFault, StateRefusal};

@@ -4,5 +4,5 @@
 mod laws;
 mod window;
 
-pub use laws::none_is_taken_twice;
+pub use laws::{limits_are, none_is_taken_twice};
 pub use window::{PLACES, REACH, Window};

@@ -2,6 +2,8 @@ use Rattle.std.proofs.Common.{rules}
 use Rattle.roll_held.specs.Heard.{beside, HearsHeld}
 use Rattle.roll_held.specs.Told.{as_told}
 use Rattle.roll_held.proofs.Ahead.{hears_held, unheard_same}
+use Rattle.roll_held.specs.Waits.{Waits}
+use Rattle.roll_held.proofs.Waiting.{waits_past, waits_same}
 use Rattle.roll_held.proofs.held.Held.receive.Goals as goal
 
 pub returns-in-Ok-clause-heard : goal.returns-in-Ok-clause-heard
@@ -16,3 +18,16 @@ returns-in-Ok-clause-heard g c =
     c.receive.ensures.refused
     (unheard_same (λ h. as_told (seen h.session.now) h.held.now.words.items h.reserved) c.receive.result new _ c.receive.ensures.session) in
     search (hears, rules)
+
+pub returns-in-Ok-clause-waits : goal.returns-in-Ok-clause-waits
+returns-in-Ok-clause-waits g c =
+    let seen = g.S.Networked.seen in
+    let new = c.receive.new.session in
+    let waits : Waits (seen c.args.session.now) (seen new.session.now) c.args.self.now new.held.now =
+    waits_past (seen c.args.session.now) (seen c.make_room.new.session) (seen new.session.now) c.args.self.now new.held.now
+    c.in-Ok.ensures.same c.receive.ensures.keeps.1.1.1.0 in
+    search (waits, rules)
+
+pub returns-in-Err-clause-waits : goal.returns-in-Err-clause-waits
+returns-in-Err-clause-waits g c =
+    waits_same g.S.Networked.seen c.args.session.now c.make_room.new.session c.args.self.now c.in-Err.ensures.unchanged

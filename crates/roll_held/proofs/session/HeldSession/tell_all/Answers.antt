@@ -3,6 +3,7 @@ use Rattle.roll_inputs.specs.declared.remote_word.RemoteWord.{RemoteWord}
 use Rattle.roll_session.specs.Seen.{Seen}
 use Rattle.roll_held.specs.Told.{told, Fits}
 use Rattle.roll_held.proofs.Told.{told_stays}
+use Rattle.roll_held.proofs.Waiting.{told_waits}
 use Rattle.roll_held.proofs.session.HeldSession.tell_all.Goals as goal
 
 pub invariant_of-self : goal.invariant_of-self
@@ -25,3 +26,11 @@ invariant_of-self g c =
       room = omega (arith, old.room, reserved, many);
       log = omega (arith, old.log, logged, most, many);
     }
+
+pub returns-clause-waits : goal.returns-clause-waits
+returns-clause-waits g c =
+    let old = c.args.self.now in
+    let s = g.S.Networked.seen old.session.now in
+    let words = old.held.now.words.items in
+    let all : c.as_slice.result.now ≡ words = c.as_slice.ensures.value ∙ ap (λ v. v.items) c.replace-words.ensures.value in
+    told_waits s (g.S.Networked.seen c.tell.new.session) old.held.now _ (c.tell.ensures.told ∙ ap (told s) all) c.new-self.ensures

@@ -2,10 +2,12 @@ use Rattle.std.proofs.Common.{◌≡◌, ◌∙◌, ◌+◌, ◌-◌, ◌∷◌,
 use Rattle.std.specs.Prelude.{unwrap_or}
 use Rattle.roll_frame.specs.declared.refusal.Refusal.TheVariants.{NoMemory}
 use Rattle.roll_inputs.specs.declared.remote_word.RemoteWord.{RemoteWord}
-use Rattle.roll_session.specs.Changes.{FitsLog}
+use Rattle.roll_session.specs.Changes.{remote_refusal, FitsLog}
 use Rattle.roll_session.specs.Seen.{Seen}
 use Rattle.roll_held.specs.Told.{is_next, roomless, told, Takes}
 use Rattle.roll_held.proofs.Told.{as_told_same, full_same, held_more, next_refusal, next_taken, takes_room, told_room}
+use Rattle.roll_held.specs.Waits.{wait_more}
+use Rattle.roll_held.proofs.Waiting.{said_waits}
 use Rattle.roll_held.proofs.session.HeldSessionNetworked.remote_input.Goals as goal
 
 pub hold-requires-clause-takes : goal.hold-requires-clause-takes
@@ -85,3 +87,76 @@ returns-in-Err-clause-refused g c =
           i.same i.words i.reserved;
       reserved = λ none. i.unreserved;
     }
+
+pub returns-in-Ok-clause-keeps : goal.returns-in-Ok-clause-keeps
+returns-in-Ok-clause-keeps g c =
+    let old = c.args.self.now in
+    let mid = c.make_room.new.self in
+    let place = c.make_place.new.self in
+    let new = c.hold.new.self in
+    let seen = g.S.Networked.seen in
+    let i = c.in-Ok.ensures in
+    let p = c.make_place.ensures in
+    let h = c.hold.ensures in
+    let keeps = g.S.Networked.keeps_on old.session.now mid.session.now place.session.now i.keeps p.keeps in
+    let waits = wait_more (seen old.session.now) (seen mid.session.now) (seen place.session.now) old.held.now mid.held.now place.held.now
+    i.waits p.waits in (
+      h.same_session ∙ p.same_session ∙ i.same_session,
+      (
+        h.same_held ∙ p.same_held ∙ i.same_held,
+        (
+          h.turns ∙ p.turns ∙ i.turns,
+          (
+            wait_more (seen old.session.now) (seen place.session.now) (seen new.session.now) old.held.now place.held.now new.held.now
+                waits h.waits,
+            subst (λ s. g.S.Networked.keeps old.session.now s) (sym h.session) keeps,
+          ),
+        ),
+      ),
+    )
+
+pub returns-in-Ok-Taken-clause-keeps : goal.returns-in-Ok-Taken-clause-keeps
+returns-in-Ok-Taken-clause-keeps g c =
+    let old = c.args.self.now in
+    let mid = c.tell_all.new.self in
+    let seen = g.S.Networked.seen in
+    let told = c.tell_all.ensures in
+    let said = c.remote_input.ensures in
+    let waits = said_waits (seen mid.session.now) (seen c.remote_input.new.self) c.args.player c.args.frame c.args.word
+    (remote_refusal (seen mid.session.now) c.args.player c.args.frame) mid.held.now c.remote_input.result said.heard said.refused in (
+      told.same_session,
+      (
+        told.same_held,
+        (
+          told.turns,
+          (
+            wait_more (seen old.session.now) (seen mid.session.now) (seen c.remote_input.new.self) old.held.now mid.held.now mid.held.now
+                told.waits waits,
+            g.S.Networked.keeps_on old.session.now mid.session.now c.remote_input.new.self told.keeps said.keeps,
+          ),
+        ),
+      ),
+    )
+
+pub returns-in_default-clause-keeps : goal.returns-in_default-clause-keeps
+returns-in_default-clause-keeps g c =
+    let old = c.args.self.now in
+    let mid = c.tell_all.new.self in
+    let seen = g.S.Networked.seen in
+    let told = c.tell_all.ensures in
+    let said = c.remote_input.ensures in
+    let waits = said_waits (seen mid.session.now) (seen c.remote_input.new.self) c.args.player c.args.frame c.args.word
+    (remote_refusal (seen mid.session.now) c.args.player c.args.frame) mid.held.now c.remote_input.result said.heard said.refused in (
+      told.same_session,
+      (
+        told.same_held,
+        (
+          told.turns,
+          (
+            wait_more (seen old.session.now) (seen mid.session.now) (seen c.remote_input.new.self) old.held.now mid.held.now mid.held.now
+                told.waits waits,
+            g.S.Networked.keeps_on old.session.now mid.session.now c.remote_input.new.self told.keeps said.keeps,
+          ),
+        ),
+      ),
+    )

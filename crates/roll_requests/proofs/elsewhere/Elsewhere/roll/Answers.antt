@@ -1,5 +1,5 @@
 use Rattle.std.proofs.Common.{◌≡◌, ◌++◌, ◌∷◌, ◌∙◌, ◌+◌, ◌-◌, [], ℕ, List, Some, ap, arith, length, max, refl, subst, sym}
-use Rattle.std.specs.Prelude.{◌||◌}
+use Rattle.std.specs.Prelude.{◌||◌, IsSomeAnd}
 use Rattle.roll_frame.specs.Core.{Core, cost}
 use Rattle.roll_frame.specs.declared.entry.Entry.{Entry}
 use Rattle.roll_frame.specs.Timeline.{row_at}
@@ -11,7 +11,8 @@ use Rattle.roll_session.proofs.Holding.{least_of}
 use Rattle.roll_session.proofs.Rolling.{some_is}
 use Rattle.roll_tree.specs.SavedStates.{Saved, state_named}
 use Rattle.roll_session.specs.Saves.{Standing}
-use Rattle.roll_requests.specs.Asked.{Asked}
+use Rattle.roll_session.specs.Standing.{rows_from}
+use Rattle.roll_requests.specs.Asked.{Asked, StartsIn}
 use Rattle.roll_requests.specs.Planned.{IsRoom}
 use Rattle.roll_requests.specs.Requests.{last_or, roll_requests}
 use Rattle.roll_requests.specs.declared.request.Request.{Request}
@@ -122,6 +123,16 @@ returns-clause-entered c =
     ∙ (ap (λ (s : Seen). with_entries s entries s.counts) c.in_ok-plan.ensures.looked
     ∙ ap (λ n. record (with_entries old entries old.counts) { reserved = n }) left))
 
+-- where it starts
+starts_of : (c : goal.After-laws-2) → StartsIn c.plan_roll.new.core.saves c.in_ok-plan.plan.way.frame (asked_of c).0.snapshot
+starts_of c =
+    let saves = c.plan_roll.new.core.saves in
+    let way = c.in_ok-plan.plan.way in
+    let a = asked_of c in
+    let P : Saved ℕ → Type 0 = λ u. u.path ≡ rows_from saves.inputs.players saves.inputs.settled (way.frame - saves.inputs.settled) in
+    let path : P a.0 = subst (λ o. IsSomeAnd o P) a.1 c.in_ok-plan.ensures.can.going.here in
+    (way.at, subst (λ o. IsSomeAnd o (λ u. (u.snapshot ≡ a.0.snapshot) × P u)) (sym a.1) (refl, path))
+
 pub returns-clause-rolls : goal.returns-clause-rolls
 returns-clause-rolls c =
     let i = c.self.inside in
@@ -138,17 +149,21 @@ returns-clause-rolls c =
     let held = are_held mid.saves.tree.states i.jobs room.held e.room.held in
     let row : ℕ → List Cell = λ k. row_at mid.saves.inputs.players (way.frame + k) in
     let list = a.2.1 ∙ ap (λ (l : List Request). l ++ roll_requests i.at a.0.snapshot i.taken room.held row room.slots.items) c.plan_roll.ensures.requests in
+    let added = roll_adds i.limit i.at a.0.snapshot i.taken room.held row room.slots.items (cost i.core.seen.core way.to) i.jobs i.queue.requests c.ask_roll-self-inside.new.queue.requests e.room.free.below many
+    (λ n job there.
+    let off = start_outside mid c.enter.new.self c.args.call way room i.limit i.jobs (done_of c) (own_of c) a.0 a.1 n job there in
+    roll_apart job room.held (held.out n job there) i.limit i.at a.0.snapshot i.taken row room.slots.items off e.room.free)
+    list in
     rw (← c.self.view_is)
     (record {
       is_to = subst (λ (k : Core). IsRollTo k c.args.call way.to) core e.can.to;
       from_is = e.from;
       rerun_is = ap (λ n. way.to - n) e.from;
       least = subst (λ (k : Core). IsLeast k way.to) core least;
-      adds = roll_adds i.limit i.at a.0.snapshot i.taken room.held row room.slots.items (cost i.core.seen.core way.to) i.jobs i.queue.requests c.ask_roll-self-inside.new.queue.requests e.room.free.below many
-          (λ n job there.
-          let off = start_outside mid c.enter.new.self c.args.call way room i.limit i.jobs (done_of c) (own_of c) a.0 a.1 n job there in
-          roll_apart job room.held (held.out n job there) i.limit i.at a.0.snapshot i.taken row room.slots.items off e.room.free)
-          list;
+      adds = added.0;
+      start = a.0.snapshot;
+      starts = subst (λ (s : Standing ℕ). StartsIn s way.frame a.0.snapshot) c.plan_roll.ensures.hardly.saves (starts_of c);
+      loads = added.1;
       taken = needed_now i.core.saves.tree.states i.jobs i.limit (cost i.core.seen.core way.to) room.held c.fill_all.new.self room.slots.items room_is.held room_is.least many (filled_of c);
     })
 
