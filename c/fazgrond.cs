@@ -7,7 +7,7 @@ public static unsafe class Fazgrond
 {
     const string Library = "fazgrond";    // fazgrond.dll, or libfazgrond.so on Linux
 
-    public const uint Version = 0x000103;
+    public const uint Version = 0x000200;
     public const int Players = 8;
     public const uint NoPlayer = 255;
     public const int Machines = 8;
@@ -109,6 +109,7 @@ public static unsafe class Fazgrond
         public fixed ulong Numbers[Fazgrond.Machines];
         public ulong Draw;
         public ulong Digest;
+        public ulong Comers;
         public uint Me;
         public uint Machines;
         public fixed uint Owners[Fazgrond.Players];
@@ -168,14 +169,6 @@ public static unsafe class Fazgrond
         public ulong Ticket;
         public fixed uint Comes[Fazgrond.Players];
         public fixed uint Delays[Fazgrond.Players];
-    }
-
-    [StructLayout(LayoutKind.Sequential)]
-    public struct Ask
-    {
-        public ulong Ticket;
-        public uint Player;
-        public fixed uint Comes[Fazgrond.Players];
     }
 
     [StructLayout(LayoutKind.Sequential)]
@@ -327,13 +320,12 @@ public static unsafe class Fazgrond
     [DllImport(Library)] public static extern int fazgrond_peer_hand_over(Peer* peer, Session* session, uint count);
     [DllImport(Library)] public static extern int fazgrond_peer_hand_over_due(Peer* peer, Session* session, uint* handed);
     [DllImport(Library)] public static extern int fazgrond_peer_is_pressed(Peer* peer, Session* session, uint* flag);
+    [DllImport(Library)] public static extern ulong fazgrond_ticket(ulong comers, uint name);
     [DllImport(Library)] public static extern int fazgrond_peer_open_lasting(Peer* peer, Session* session, Match* match,
                                                                              Epoch* epoch);
     [DllImport(Library)] public static extern int fazgrond_peer_epoch(Peer* peer, Epoch* epoch);
     [DllImport(Library)] public static extern int fazgrond_peer_has_stayed(Peer* peer, byte machine, uint* flag);
     [DllImport(Library)] public static extern int fazgrond_peer_mark(Peer* peer, Session* session, byte player, Mark* mark);
-    [DllImport(Library)] public static extern int fazgrond_peer_ask(Peer* peer, Ask* ask);
-    [DllImport(Library)] public static extern int fazgrond_peer_answer(Peer* peer, byte player, uint is_welcome);
     [DllImport(Library)] public static extern int fazgrond_peer_go_on(Peer* peer, Session* session, uint* frames);
     [DllImport(Library)] public static extern int fazgrond_peer_send_before(Peer* peer, byte machine, uint now, byte* @out,
                                                                             UIntPtr room, UIntPtr* length);

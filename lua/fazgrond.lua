@@ -45,7 +45,6 @@ local taker_out = ffi.new "fazgrond_taker_state"
 local heard_out = ffi.new "fazgrond_heard"
 local foreseen_out = ffi.new("fazgrond_foreseen[?]", MOST_GUESSES)
 local epoch_out = ffi.new "fazgrond_epoch"
-local ask_out = ffi.new "fazgrond_ask"
 
 -- ---- The library.
 
@@ -757,7 +756,7 @@ end
 
 -- ---- The network of a match at one of its machines, beside a session. `now` is this machine's clock in milliseconds.
 
-local MATCH = set_of [[me machines owners number numbers draw digest silent_after notify_after stalled_after words held_turns
+local MATCH = set_of [[me machines owners number numbers draw digest comers silent_after notify_after stalled_after words held_turns
     carries]]
 
 -- The number of a match with a machine: that of `me`, and of those that there aren't, isn't read.
@@ -784,7 +783,7 @@ local function match_of(given)
     end
     put_by_players(match.owners, "owners", given.owners, numbers.NO_PLAYER)
     match.draw = u64("draw", given.draw or fazgrond.random_number())
-    match.digest = digest_of(given.digest or 0)
+    match.digest, match.comers = digest_of(given.digest or 0), u64("comers", given.comers or 0)
     match.silent_after = u32("silent_after", given.silent_after or numbers.SILENT_AFTER)
     match.notify_after = u32("notify_after", given.notify_after or numbers.NOTIFY_AFTER)
     match.stalled_after = u32("stalled_after", given.stalled_after or 0)
@@ -819,7 +818,7 @@ end
 -- `numbers`, by machines from 0), and if they are to be others `digest`, `silent_after` (5000), `notify_after` (750),
 -- `stalled_after` (0), `words` (1), `held_turns` (0) and `draw` (random bits). With `carries`, in a match of three machines or more, it
 -- hands on what two others send each other whose line is broken, and they for it: see `send_more`. With an `epoch` the match goes on in
--- epochs, beginning with this one, and carries: see `fazgrond.epoch`.
+-- epochs, beginning with this one, and carries: see `fazgrond.epoch`. Who may come to it `comers` says: see `fazgrond.ticket`.
 function fazgrond.peer(session, match, epoch)
     check_options(match, MATCH, "matches")
     if epoch then
@@ -959,7 +958,7 @@ function Peer:is_pressed()
 end
 
 -- ---- A match that goes on in epochs: with other machines, owners or delays. In each turn, after `poll` and before the session is given
--- words: `answer` who asks to come (`ask`), and `go_on`. After `send` to a machine, send it what `send_before` has, too.
+-- words: `go_on`. After `send` to a machine, send it what `send_before` has, too.
 
 -- The first epoch of a match whose sessions have these settings, for `fazgrond.peer`: `id`, `base`, `words`, `threshold`, `machines`,
 -- `owners` and `delays`. Settings have a delay for the machine's own players alone: put those of the others into `delays`.
@@ -1000,6 +999,12 @@ function Peer:has_stayed(machine)
     return flagged(lib.fazgrond_peer_has_stayed(open(self), u8(machine), number))
 end
 
+-- The ticket by which somebody comes to a match with these `comers`, under a name of 32 bits: a mark with another one is void.
+function fazgrond.ticket(comers, name)
+    need_library()
+    return lib.fazgrond_ticket(u64("comers", comers), u32("name", name))
+end
+
 local MARK = set_of [[threshold ticket comes delays]]
 
 -- Puts a mark on the next word that a player of this machine gives: the epoch ends after that frame. The mark may have a new
@@ -1017,27 +1022,6 @@ function Peer:mark(player, given)
         mark.comes[place_of(comes)] = 1
     end
     return done(lib.fazgrond_peer_mark(handle, session, u8(player), mark))
-end
-
--- Who asks to come by a mark, and wasn't answered yet: a table with the mark's `player`, its `ticket` (a 64-bit number of LuaJIT), and
--- the players with which somebody `comes`. The epoch doesn't end before. nil and "nothing" if nobody asks.
-function Peer:ask()
-    local code = lib.fazgrond_peer_ask(open(self), ask_out)
-    if code ~= OK then
-        return refused(code)
-    end
-    local ask = { player = ask_out.player, ticket = ask_out.ticket, comes = {} }
-    for at = 0, PLAYERS - 1 do
-        if ask_out.comes[at] ~= 0 then
-            table.insert(ask.comes, at + 1)
-        end
-    end
-    return ask
-end
-
--- Says whether whoever is to come by this player's mark is welcome: all machines have to say the same.
-function Peer:answer(player, is_welcome)
-    return done(lib.fazgrond_peer_answer(open(self), u8(player), is_welcome and 1 or 0))
 end
 
 -- Goes on in the next epoch if this one is over: answers at what frame of it the session is, whose frames begin anew; nil and

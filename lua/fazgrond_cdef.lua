@@ -3,7 +3,7 @@ local ffi = require "ffi"
 
 if not pcall(ffi.typeof, "fazgrond_session") then -- (this may be loaded more than once)
     ffi.cdef [[
-static const int FAZGROND_VERSION = 0x000103;
+static const int FAZGROND_VERSION = 0x000200;
 uint32_t fazgrond_version(void);
 size_t fazgrond_text(int32_t code, uint8_t *out, size_t room);
 static const int FAZGROND_PLAYERS = 8;
@@ -156,6 +156,7 @@ typedef struct fazgrond_match {
     uint64_t numbers[8];
     uint64_t draw;
     uint64_t digest;
+    uint64_t comers;
     uint32_t me;
     uint32_t machines;
     uint32_t owners[8];
@@ -246,18 +247,12 @@ typedef struct fazgrond_mark {
     uint32_t comes[8];
     uint32_t delays[8];
 } fazgrond_mark;
-typedef struct fazgrond_ask {
-    uint64_t ticket;
-    uint32_t player;
-    uint32_t comes[8];
-} fazgrond_ask;
+uint64_t fazgrond_ticket(uint64_t comers, uint32_t name);
 int32_t fazgrond_peer_open_lasting(fazgrond_peer *peer, fazgrond_session *session, const fazgrond_match *match, const
     fazgrond_epoch *epoch);
 int32_t fazgrond_peer_epoch(fazgrond_peer *peer, fazgrond_epoch *epoch);
 int32_t fazgrond_peer_has_stayed(fazgrond_peer *peer, uint8_t machine, uint32_t *flag);
 int32_t fazgrond_peer_mark(fazgrond_peer *peer, fazgrond_session *session, uint8_t player, const fazgrond_mark *mark);
-int32_t fazgrond_peer_ask(fazgrond_peer *peer, fazgrond_ask *ask);
-int32_t fazgrond_peer_answer(fazgrond_peer *peer, uint8_t player, uint32_t is_welcome);
 int32_t fazgrond_peer_go_on(fazgrond_peer *peer, fazgrond_session *session, uint32_t *frames);
 int32_t fazgrond_peer_send_before(fazgrond_peer *peer, uint8_t machine, uint32_t now, uint8_t *out, size_t room, size_t *length);
 typedef struct fazgrond_line {
@@ -378,7 +373,7 @@ end
 
 return {
     numbers = {
-        VERSION = 259,
+        VERSION = 512,
         PLAYERS = 8,
         NO_PLAYER = 255,
         MACHINES = 8,

@@ -13,7 +13,7 @@ import urllib.parse
 
 SIGNS = "0123456789ABCDEFGHJKMNPQRSTVWXYZ"
 PAGE = 0x66617A2D70616765
-VERSION, KEY, INBOX, NONCE, SEAL = 2, 32, 32, 24, 40
+VERSION, KEY, INBOX, NONCE, SEAL = 3, 32, 32, 24, 40
 # Bytes of a code, of the name of who knocks, and of a room's name. So many signals wait.
 CODE = KNOCK = NAME = 16
 EARLY = 64

@@ -9,6 +9,8 @@ using static Fazgrond;
 public static unsafe class Epochs
 {
     const uint Frames = 200;
+    // Who may come, and the ticket of the name 3: hashlib of Python made it.
+    const ulong Comers = 0xfedcba9876543210, Ticket = 0xa00ed4d700000003;
     static byte* bytes;
 
     sealed class Machine
@@ -56,6 +58,7 @@ public static unsafe class Epochs
         match.Owners[0] = 0;
         match.Owners[1] = 1;
         match.Draw = 70ul + me;
+        match.Comers = Comers;
         var epoch = fazgrond_epoch_for(&match, &settings);
         Must(fazgrond_peer_open_lasting(machine.Peer, machine.Session, &match, &epoch));
         for (int turn = 0; turn < lag; turn++)
@@ -88,18 +91,26 @@ public static unsafe class Epochs
         machine.Bases.Add(epoch.Base);
     }
 
-    static void Plays(Machine machine, bool isMarked, uint now)
+    // A mark of turn 60 is void, since its tag isn't that of its name. Nobody gets a player by that of turn 120, for none is free.
+    static void Marks(Machine machine, uint turn)
+    {
+        var mark = fazgrond_mark_for();
+        mark.Comes[1] = turn == 60 || turn == 120 ? 1u : 0u;
+        mark.Ticket = turn == 60 ? Ticket - 1 : Ticket;
+        Must(fazgrond_peer_mark(machine.Peer, machine.Session, (byte)(machine.Me + 1), &mark));
+    }
+
+    static void Plays(Machine machine, uint turn)
     {
         uint isRunning, frame, hasNews;
         Reached reached;
         Row row;
-        Must(fazgrond_peer_poll(machine.Peer, machine.Session, now));
+        Must(fazgrond_peer_poll(machine.Peer, machine.Session, 16 * turn));
         GoesOn(machine);
         Must(fazgrond_peer_is_running(machine.Peer, &isRunning));
         Must(fazgrond_frame(machine.Session, &frame));
-        var mark = fazgrond_mark_for();
-        if (isMarked)
-            Must(fazgrond_peer_mark(machine.Peer, machine.Session, (byte)(machine.Me + 1), &mark));
+        if (machine.Me == turn / 40 % 2 && (turn == 40 || turn == 60 || turn == 80 || turn == 120))
+            Marks(machine, turn);
         ulong whole = machine.Bases.Last() + frame;
         if (isRunning != 0 && whole < Frames
             && fazgrond_add_local_input(machine.Session, (byte)(machine.Me + 1), Pressed(machine.Me, whole)) == Ok)
@@ -141,7 +152,7 @@ public static unsafe class Epochs
             foreach (var machine in both)
             {
                 Hears(machine, 16 * turn);
-                Plays(machine, machine.Me == turn / 40 % 2 && (turn == 40 || turn == 80 || turn == 120), 16 * turn);
+                Plays(machine, turn);
                 both[1 - machine.Me].Coming.Enqueue(Sent(machine, (byte)(1 - machine.Me), 16 * turn));
             }
         ulong state = 0;
@@ -163,6 +174,8 @@ public static unsafe class Epochs
     public static void Main()
     {
         bytes = (byte*)Marshal.AllocHGlobal(Datagram);
+        Is("a ticket", fazgrond_ticket(Comers, 3), Ticket);
+        Is("the last one", fazgrond_ticket(Comers, 0xffffffff), 0x6994a5ddfffffffful);
         foreach (int lag in new[] { 1, 3, 5 })
             Play(lag);
         SyncTests.Run();

@@ -4,6 +4,8 @@ local fazgrond = require "fazgrond"
 local Sum = require "sum"
 
 local FRAMES, TURN = 200, 16
+-- Who may come, and the ticket of the name 3: hashlib of Python made it.
+local COMERS, TICKET = 0xfedcba9876543210ULL, 0xa00ed4d700000003ULL
 
 local function is(found, wanted)
     if found ~= wanted then
@@ -32,7 +34,9 @@ end
 
 local function new_machine(me)
     local settings = { players = 2, locals = { me + 1 } }
-    local match = { me = me, machines = 2, owners = { 0, 1 }, number = 7, draw = 70 + me, silent_after = 0, notify_after = 0 }
+    local match = {
+        me = me, machines = 2, owners = { 0, 1 }, number = 7, comers = COMERS, draw = 70 + me, silent_after = 0, notify_after = 0,
+    }
     local epoch = fazgrond.epoch(match, settings)
     local session = assert(fazgrond.session(settings, Sum.new(31, 1000003)))
     local peer = assert(fazgrond.peer(session, match, epoch))
@@ -87,18 +91,16 @@ local function go_on(self)
     end
 end
 
--- Who asks to come by the second machine's mark isn't welcome.
-local function answer(self)
-    local ask = self.peer:ask()
-    if ask then
-        is(ask.player, 2)
-        is(ask.ticket, 9ULL)
-        is(table.concat(ask.comes, " "), "1")
-        is(self.peer:answer(2, false), true)
-    end
-end
+is(fazgrond.ticket(COMERS, 0), 0xadfa742300000000ULL)
+is(fazgrond.ticket(COMERS, 4294967295), 0x6994a5ddffffffffULL)
 
-local MARKS = { [40] = { 0 }, [80] = { 1, { ticket = 9, comes = { 1 } } }, [120] = { 0, { threshold = 6, delays = { [1] = 0 } } } }
+-- The second mark is void, since its tag isn't that of its name. Nobody gets a player by the third one, for none is free.
+local MARKS = {
+    [40] = { 0 },
+    [80] = { 1, { threshold = 7, ticket = TICKET - 1, comes = { 1 } } },
+    [120] = { 0, { threshold = 6, delays = { [1] = 0 }, ticket = fazgrond.ticket(COMERS, 3), comes = { 2 } } },
+}
+is(MARKS[120][2].ticket, TICKET)
 
 local function mark(self, turn)
     local due = MARKS[turn]
@@ -115,7 +117,6 @@ local function take_turn(self, other, turn)
         self.peer:receive(bytes, now)
     end
     assert(self.peer:poll(now))
-    answer(self)
     go_on(self)
     local frame = frame_of(self)
     if self.peer:is_running() then
@@ -201,10 +202,9 @@ local session = assert(fazgrond.session({ players = 2, locals = { 1 } }, Sum.new
 local match = { me = 0, machines = 2, owners = { 0, 1 }, number = 7, draw = 70 }
 local peer = assert(fazgrond.peer(session, match))
 is(select(2, peer:mark(1)), "no_marks")
-for _, call in ipairs { "epoch", "ask", "go_on" } do
+for _, call in ipairs { "epoch", "go_on" } do
     is(select(2, peer[call](peer)), "nothing")
 end
-is(select(2, peer:answer(1, true)), "nothing")
 is(select(2, peer:send_before(1, 0)), "nothing")
 is(select(2, peer:has_stayed(0)), "nothing")
 local line = assert(fazgrond.line(session, line_of(0, 21)))

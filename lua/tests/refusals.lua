@@ -93,6 +93,8 @@ fails("`number` is 1.5", opens("number", 1.5))
 fails("`number` is -7", opens("number", -7))
 fails("`number` is 1.3117684672949e+18", opens("number", 0x1234567890abcdef)) -- (without ULL it is no such number)
 fails("`number` is -7LL", opens("number", -7LL))
+fails("`comers` is -1", opens("comers", -1))
+fails("`name` is 4294967296", fazgrond.ticket, 5, 4294967296)
 fails("`numbers[1]` is seven", opens("numbers", { [1] = "seven" }))
 fails("`owners[2]` is -1", opens("owners", { 0, -1 }))
 fails("`words` is 1.5", opens("words", 1.5))
@@ -354,7 +356,7 @@ gone:close()
 fails("the peer is closed", told.send_before, told, gone, 0)
 
 -- Sentences, and the version.
-is(fazgrond.version(), "0.1.3")
+is(fazgrond.version(), "0.2.0")
 for code in pairs(fazgrond.answers) do
     is(#fazgrond.text(code) > 1, true)
 end

@@ -1,6 +1,7 @@
 """What each class answers: calls.py PACKAGE. The last line is `N passed, M failed`."""
 import copy
 import gc
+import hashlib
 import pickle
 import random
 import re
@@ -12,9 +13,9 @@ from pathlib import Path
 
 import recorder
 from fazgrond import (
-    WINDOW_REACH, Answer, Ask, Call, Closed, Epoch, Giver, Habits, Handle, Happened, Kind, Line, LineSettings, Mark, Match, Peer,
+    WINDOW_REACH, Answer, Call, Closed, Epoch, Giver, Habits, Handle, Happened, Kind, Line, LineSettings, Mark, Match, Peer,
     Piece, Refused, RemoteWord, Row, Session, Settings, StateName, Taker, Viewer, Window, state_ask, state_sender, state_told, sync_test,
-    text, version,
+    text, ticket, version,
 )
 from fazgrond.numbers import VERSION
 
@@ -144,6 +145,8 @@ def settings_by_name(session):
         ("`words` is 1.5", lambda: Peer(session, Match(**match, words=1.5))),
         ("`silent_after` is 4294967296", lambda: Peer(session, Match(**match, silent_after=1 << 32))),
         ("`draw` is -1", lambda: Peer(session, Match(**match, draw=-1))),
+        ("`comers` is -1", lambda: Peer(session, Match(**match, comers=-1))),
+        ("`name` is 4294967296", lambda: ticket(5, 1 << 32)),
         ("`base` is -1", lambda: Peer(session, Match(**match), Epoch([0, 1], [0, 0], 8, base=-1))),
         ("`delays[2]` is 0.5", lambda: Peer(session, Match(**match), Epoch([0, 1], [0, 0.5], 8))),
         ("`host` is 0.5", lambda: Viewer(LineSettings(**{**line, "host": 0.5}))),
@@ -822,8 +825,17 @@ def who_does_not_carry_has_nothing_more_to_send():
 
 # ---- epochs
 
-def lasting(me, game=Sum):
-    settings, of = Settings(2, [me + 1]), Match(me, 2, [0, 1], 7, draw=70 + me, silent_after=0)
+COMERS = 0xFEDCBA9876543210
+
+
+def ticket_of(name):
+    """A ticket, by the rule that the pages state."""
+    tag = hashlib.sha256(COMERS.to_bytes(8, "big") + name.to_bytes(8, "big")).digest()[:4]
+    return int.from_bytes(tag + name.to_bytes(4, "big"), "big")
+
+
+def lasting(me, game=Sum, comers=COMERS):
+    settings, of = Settings(2, [me + 1]), Match(me, 2, [0, 1], 7, comers=comers, draw=70 + me, silent_after=0)
     epoch, session = Epoch.first(of, settings), Session(settings, game())
     assert epoch == Epoch([0, 1], [0, 0], 8, 1, 0, 0, 2)
     peer = Peer(session, of, epoch)
@@ -836,7 +848,9 @@ def stayed(peer):
     return [machine for machine in range(256) if peer.has_stayed(machine)]
 
 
-MARKS = {40: (0, None), 80: (1, Mark(comes=[1], ticket=9)), 120: (0, Mark(threshold=6, delays={1: 0}))}
+# The second one is void, since its tag isn't that of its name. Nobody gets a player by the third one, for none is free.
+MARKS = {40: (0, None), 80: (1, Mark(threshold=7, comes=[1], ticket=ticket_of(3) ^ 1)),
+         120: (0, Mark(threshold=6, delays={1: 0}, comes=[2], ticket=ticket_of(3)))}
 
 
 def marks(peer, me, mark):
@@ -846,11 +860,8 @@ def marks(peer, me, mark):
 
 
 def goes_on(session, peer, epochs, is_watched):
-    """Goes on if an epoch is over, and says the frame of the whole match. Who asks to come isn't welcome. If somebody watches, what has
-    come is played first, so that all rows are told of the epoch that may be over."""
-    if (ask := peer.ask()) is not None:
-        assert ask == Ask(2, 9, [1])
-        peer.answer(ask.player, False)
+    """Goes on if an epoch is over, and says the frame of the whole match. If somebody watches, what has come is played first, so that all
+    rows are told of the epoch that may be over."""
     before = peer.epoch().base + session.frame
     if is_watched and session.has_news:
         session.synchronize_input()
@@ -893,6 +904,19 @@ def late(machines, lag, turns, frames, plays=plays):
     ways = [[[], []] for _ in range(lag)]
     for turn in range(turns):
         ways.append(both_play(machines, ways.pop(0), turn, frames, False, plays))
+
+
+@test
+def who_may_come():
+    """Tickets are as the pages have them. Matches of other comers are others, and so is one that doesn't go on."""
+    for name in [0, 3, 0xFFFFFFFF]:
+        assert ticket(COMERS, name) == ticket_of(name)
+    for other in [lasting(1, comers=COMERS + 1)[:2], machine(1)]:
+        one = lasting(0)[:2]
+        meet(one, other)
+        for me, (_, peer) in enumerate([one, other]):
+            assert (Happened.MISMATCH, 1 - me, 3) in [(it.code, it.machine, it.field) for it in peer.events()]
+        close(one, other)
 
 
 @test
@@ -1006,10 +1030,9 @@ def a_match_that_does_not_go_on_in_epochs():
     for kind in [Handle(settings), Session(settings, Sum())]:
         peer = Peer(kind, of)
         refused(Answer.NO_MARKS, peer.mark, 1)
-        assert (peer.epoch(), peer.ask(), peer.go_on(), peer.send_before(1, 0)) == (None, None, None, None)
+        assert (peer.epoch(), peer.go_on(), peer.send_before(1, 0)) == (None, None, None)
         with Line(kind, LineSettings(8, 0, 2, [0, 1])) as line:
             assert line.send_before(peer, 0) is None and stayed(peer) == []
-        peer.answer(1, True)
         close((kind, peer))
     session, other = Session(settings, Sum()), Epoch.first(of, Settings(2, [1], threshold=7))
     refused(Answer.INVALID_REQUEST, Peer, session, of, other)

@@ -47,6 +47,8 @@ export interface MatchSettings {
   draw?: bigint | number;
   /** Of all else that has to be alike at all machines. */
   digest?: bigint;
+  /** Who may come to a match that goes on: see `ticket`. 0, if it isn't said: anybody whom a mark has come. */
+  comers?: bigint;
   /** Milliseconds: 5000, 750 and 0, if it isn't said. */
   silentAfter?: number;
   notifyAfter?: number;
@@ -83,16 +85,9 @@ export interface Mark {
   threshold?: number;
   /** New delays, player 1 first: of players of the machine that puts the mark. */
   delays?: (number | undefined)[];
-  /** The players that somebody who comes is to own, from 1 on, and by what the program knows who it is. */
+  /** The players that somebody who comes is to own, from 1 on, and the ticket: a mark with one that isn't of the `comers` is void. */
   comes?: number[];
   ticket?: bigint;
-}
-
-/** Somebody who asks to come, by a mark of this player. */
-export interface Ask {
-  player: number;
-  ticket: bigint;
-  comes: number[];
 }
 
 export interface LineSettings {
@@ -128,6 +123,7 @@ export class Fazgrond {
   session<State>(settings: SessionSettings, game: Game<State>): Session<State>;
   peer(session: Session<any>, match: MatchSettings, epoch?: Epoch): Peer;
   epoch(match: MatchSettings, settings: SessionSettings): Epoch;
+  ticket(comers: bigint, name: number): bigint;
   line(session: Session<any>, settings: LineSettings): Line;
   viewer(settings: LineSettings): Viewer;
   habits(parts?: number[], likely?: number[]): Habits;
@@ -209,8 +205,6 @@ export class Peer extends Handle {
   epoch(): Epoch | null;
   hasStayed(machine: number): boolean;
   mark(player: number, mark?: Mark): number;
-  ask(): Ask | null;
-  answer(player: number, isWelcome: boolean): number;
   goOn(): number;
   sendBefore(machine: number, now: number): Uint8Array | null;
 }

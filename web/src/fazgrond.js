@@ -146,6 +146,11 @@ export class Fazgrond {
     return { id: 0n, base: 0n, words, threshold, machines, owners: owners.slice(0, players), delays: delays.slice(0, players) };
   }
 
+  /** The ticket by which somebody comes to a match with these `comers`, under a name of 32 bits. */
+  ticket(comers, name) {
+    return BigInt.asUintN(64, this.calls.ticket(whole64("comers", comers), whole("name", name)));
+  }
+
   /** Opens a host's end of a viewer's line, beside a session. */
   line(session, settings) {
     return new Line(this, session, settings);
@@ -681,8 +686,8 @@ class Sealed extends Handle {
   }
 }
 
-const MATCH = ["me", "machines", "owners", "number", "numbers", "draw", "digest", "silentAfter", "notifyAfter", "stalledAfter", "words",
-  "heldTurns", "carries"];
+const MATCH = ["me", "machines", "owners", "number", "numbers", "draw", "digest", "comers", "silentAfter", "notifyAfter", "stalledAfter",
+  "words", "heldTurns", "carries"];
 
 /** The number that a match has with each machine. */
 function numbersOf({ me, machines, number, numbers }) {
@@ -703,6 +708,7 @@ function matchOf(given) {
     numbers: numbersOf(given),
     draw: whole64("draw", given.draw ?? randomNumber()),
     digest: whole64("digest", given.digest ?? 0n),
+    comers: whole64("comers", given.comers ?? 0n),
     me: whole("me", given.me),
     machines: whole("machines", given.machines),
     owners: placesOf("owners", given.owners, raw.PLAYERS, raw.NO_PLAYER),
@@ -856,7 +862,7 @@ export class Peer extends Sealed {
     return this.told(this.library.calls.peer_is_pressed(this.open, this.session.open, this.library.room)) === 1;
   }
 
-  // ---- Epochs: in each turn, after `poll` and before the session is given words, `answer` who asks to come, and `goOn`.
+  // ---- Epochs: in each turn, after `poll` and before the session is given words, `goOn`.
 
   /** How the epoch opened that is played now; null if the match doesn't go on in epochs. */
   epoch() {
@@ -876,18 +882,6 @@ export class Peer extends Sealed {
     const { library } = this;
     library.write(raw.Mark, library.room, markOf(mark));
     return library.calls.peer_mark(this.open, this.session.open, whole("player", player, U8), library.room);
-  }
-
-  /** Who asks to come by a mark, and wasn't answered yet; null if nobody does. */
-  ask() {
-    if (this.library.calls.peer_ask(this.open, this.library.room) !== OK) return null;
-    const { player, ticket, comes } = this.library.read(raw.Ask);
-    return { player, ticket, comes: comes.flatMap((one, at) => (one === 0 ? [] : [at + 1])) };
-  }
-
-  /** Says whether whoever is to come by this player's mark is welcome: all machines have to say the same. */
-  answer(player, isWelcome) {
-    return this.library.calls.peer_answer(this.open, whole("player", player, U8), isWelcome ? 1 : 0);
   }
 
   /** Goes on in the next epoch if this one is over; else the answer is `NOTHING`. The session's `reached` says at what frame it is. */

@@ -4,7 +4,7 @@ import { INBOX, KEY, PROOF, openForAll, openSealed, sealForAll } from "./keys.js
 import { Reader, Writer, hex, textBytes } from "./bytes.js";
 import { readUser, writeUser } from "./pass.js";
 
-export const VERSION = 2;
+export const VERSION = 3;
 export const KNOCK_ID = 16;
 export const KINDS = { KNOCK: 107, KNOCKED: 110, HELLO: 104, OFFER: 111, ASK: 97, ANSWER: 115, SIGNAL: 103, DOOR: 100 };
 export const Says = { WAITS: 0, SEATED: 1, BEGINS: 2, REFUSED: 3 };

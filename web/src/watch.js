@@ -12,7 +12,7 @@ const PATIENCE = 60; // turns until less than the cushion is played, and until a
 const SILENCE = 1000;
 const KINDS = { ROWS: 1, HEAD: 16, SNAP: 17, SUM: 18, END: 19 };
 const KIND_AT = 13;
-const MARK = "FZG3";
+const MARK = "FZG"; // and the digit of the version of packets
 
 const pause = (time) => new Promise((resolve) => setTimeout(resolve, time));
 
@@ -27,7 +27,7 @@ class Messages {
   }
 
   kind(bytes) {
-    const mark = String.fromCharCode(...bytes.subarray(0, 4));
+    const mark = String.fromCharCode(...bytes.subarray(0, MARK.length));
     return bytes.length > KIND_AT && mark === MARK ? bytes[KIND_AT] : KINDS.ROWS;
   }
 

@@ -262,14 +262,24 @@ export function lines(library) {
 /** How many machines were in the epoch before, and are in this one. */
 const stayed = (peer) => Array.from({ length: 256 }, (_, machine) => peer.hasStayed(machine)).filter(Boolean).length;
 
+// Who may come, and the ticket of the name 3: hashlib of Python made it.
+const COMERS = 0xfedcba9876543210n;
+const TICKET = 0xa00ed4d700000003n;
+
+/** The mark of a turn. That of turn 70 is void: its tag isn't that of its name. Nobody gets a player by the last one: none is free. */
+function markIn(turn, me) {
+  if (turn === 40 && me === 0) return {};
+  if (turn === 70 && me === 0) return { comes: [2], ticket: TICKET - 1n };
+  return turn === 100 && me === 1 ? { comes: [2], ticket: TICKET } : null;
+}
+
 function lasting(library, me) {
   const settings = { players: 2, local: [me + 1] };
-  const match = { me, machines: 2, owners: [0, 1], number: 7n, draw: 70 + me };
+  const match = { me, machines: 2, owners: [0, 1], number: 7n, comers: COMERS, draw: 70 + me };
   const session = library.session(settings, new Sum());
   const peer = library.peer(session, match, library.epoch(match, settings));
-  const isMarked = (turn) => turn === 40 + 60 * me;
   const counts = { epochs: [peer.epoch()], stayed: [stayed(peer)], missing: 0 };
-  return { me, session, peer, isMarked, isWatched: true, here: [], coming: [], ...counts };
+  return { me, session, peer, markIn, isWatched: true, here: [], coming: [], ...counts };
 }
 
 /** How many rows of the epoch before somebody isn't told, or wrongly, who begins to watch now. */
@@ -305,7 +315,8 @@ function lastingTurn(library, it, turn, frames) {
   must(peer.poll(turn * TURN));
   goOn(library, it);
   const frame = Number(it.epochs.at(-1).base) + session.frame;
-  if (it.isMarked(turn)) must(peer.mark(me + 1));
+  const mark = it.markIn(turn, me);
+  if (mark !== null) must(peer.mark(me + 1, mark));
   if (peer.isRunning && session.turn(frame < frames ? [pressedOf(me, frame)] : null) === PENDING) throw new Error("requests are left");
   return [peer.send(1 - me, turn * TURN), peer.sendBefore(1 - me, turn * TURN)].filter((bytes) => bytes !== null);
 }
@@ -313,6 +324,8 @@ function lastingTurn(library, it, turn, frames) {
 /** Two machines, each of which ends an epoch by a mark. Of the first one somebody is told who begins to watch after its end. */
 export function epochs(library) {
   const frames = 200;
+  const tickets = [3, 0xffffffff].map((name) => library.ticket(COMERS, name));
+  if (tickets[0] !== TICKET || tickets[1] !== 0x6994a5ddffffffffn) throw new Error(`the tickets are ${tickets}`);
   const both = [0, 1].map((me) => lasting(library, me));
   const line = library.line(both[0].session, { number: 8n, draw: 21, host: 0, machines: 2, owners: [0, 1] });
   if (line.sendBefore(both[0].peer, 0) !== null) throw new Error("there is no epoch before");
@@ -335,8 +348,8 @@ export function epochs(library) {
 
 /** Two machines, one of which ends epochs, hear each other so many turns late. No call of theirs stands between the poll and the seam. */
 function seamsOver(library, marker, lag) {
-  const isMarked = (turn) => [30, 70, 110, 150].includes(turn);
-  const both = [0, 1].map((me) => ({ ...lasting(library, me), isWatched: false, isMarked: me === marker ? isMarked : () => false }));
+  const marked = (turn, me) => (me === marker && [30, 70, 110, 150].includes(turn) ? undefined : null);
+  const both = [0, 1].map((me) => ({ ...lasting(library, me), isWatched: false, markIn: marked }));
   const ways = both.map(() => Array.from({ length: lag }, () => []));
   for (let turn = 0; turn < 600; turn++)
     for (const it of both) {

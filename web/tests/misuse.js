@@ -86,6 +86,8 @@ function settings(library, session) {
     ["`number` is 18446744073709551616", peer({ number: 1n << 64n })],
     ["`words` is 1.5", peer({ words: 1.5 })],
     ["`silentAfter` is 4294967296", peer({ silentAfter: 2 ** 32 })],
+    ["`comers` is -1", peer({ comers: -1n })],
+    ["`name` is 4294967296", () => library.ticket(5n, 2 ** 32)],
     ["`owners` is 1", peer({ owners: 1 })],
     ["epochs have no `delay`", epoch({ delay: [1] })],
     ["`base` is -1", epoch({ base: -1 })],

@@ -1,6 +1,6 @@
 """Rollback sessions for lockstep games: the calls of fazgrond.h as classes. docs/PYTHON.md has a whole game."""
 from ._raw import lib
-from .epoch import Ask, Epoch, Mark
+from .epoch import Epoch, Mark, ticket
 from .errors import Closed, Refused, text
 from .habits import Foreseen, Habits
 from .handle import Handle, Plays, Settings
@@ -18,11 +18,11 @@ from .window import Window
 
 __all__ = [
     "ASKED", "AS_BEFORE", "DATAGRAM", "DIGEST_BYTES", "GUESS_WORDS", "HELD_WORDS", "MACHINES", "NOBODY", "NO_MACHINE",
-    "NO_PLAYER", "PIECE", "PLAYERS", "VERSION", "WINDOW_REACH", "Answer", "Ask", "Call", "Closed", "Entry", "Epoch", "Event",
+    "NO_PLAYER", "PIECE", "PLAYERS", "VERSION", "WINDOW_REACH", "Answer", "Call", "Closed", "Entry", "Epoch", "Event",
     "Foreseen", "Game", "Giver", "Habits", "Handle", "Happened", "Heard", "Job", "Kind", "Line", "LineSettings", "LineState",
     "Mark", "Match", "Peer", "Piece", "Plays", "Profile", "Reached", "Refused", "RemoteWord", "Request", "Row", "Session",
     "Settings", "StateName", "Stats", "Taker", "TakerState", "Viewer", "Window", "state_ask", "state_sender", "state_told",
-    "sync_test", "text", "version",
+    "sync_test", "text", "ticket", "version",
 ]
 
 

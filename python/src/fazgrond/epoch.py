@@ -3,10 +3,10 @@ from __future__ import annotations
 
 from collections.abc import Collection, Mapping, Sequence
 from dataclasses import dataclass, field
-from typing import TYPE_CHECKING, Any, NamedTuple
+from typing import TYPE_CHECKING, Any
 
 from ._raw import ffi, lib
-from .given import place_of, put, put_owners, put_players, u64
+from .given import place_of, put, put_owners, put_players, u32, u64
 from .handle import Settings
 from .numbers import NO_PLAYER, NOBODY, PLAYERS
 
@@ -59,13 +59,14 @@ class Mark:
     """What is to be otherwise in the next epoch. With nothing in it the frames begin anew, and that is all.
 
     It is void, as if it weren't there, if its threshold is over 15 or a delay over 8, if it gives a delay to a player of another
-    machine, or if whoever is to come isn't welcome. Of each player the first mark of an epoch counts alone, even if it is void.
+    machine, or if somebody is to come by a ticket that isn't of the match's `comers`. Of each player the first mark of an epoch counts
+    alone, even if it is void.
     """
 
     threshold: int = 0  # the new one; 0: as before
     delays: Mapping[int, int] = field(default_factory=dict)  # new delays of players of the machine that puts it
     comes: Collection[int] = ()  # the players that somebody who comes is to own
-    ticket: int = 0  # by what the program knows who comes
+    ticket: int = 0  # of who comes: see the function `ticket`
 
     def _raw(self) -> Any:
         raw = ffi.new("fazgrond_mark *", lib.fazgrond_mark_for())
@@ -77,13 +78,6 @@ class Mark:
         return raw
 
 
-class Ask(NamedTuple):
-    """Somebody who asks to come, by a mark."""
-
-    player: int  # by whose mark
-    ticket: int  # by what the program knows who it is
-    comes: list[int]  # which players it is to own
-
-
-def ask_of(raw: Any) -> Ask:
-    return Ask(raw.player, raw.ticket, [at + 1 for at in range(PLAYERS) if raw.comes[at]])
+def ticket(comers: int, name: int) -> int:
+    """The ticket by which somebody comes to a match with these `comers`, under a name of 32 bits."""
+    return int(lib.fazgrond_ticket(u64("comers", comers), u32("name", name)))

@@ -1,7 +1,7 @@
 """The library's numbers. It is written by python/declare; fazgrond.h says what each means."""
 from enum import IntEnum
 
-VERSION = 0x000103
+VERSION = 0x000200
 PLAYERS = 8
 NO_PLAYER = 255
 MACHINES = 8

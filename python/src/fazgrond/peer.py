@@ -7,7 +7,7 @@ from dataclasses import dataclass, fields
 from typing import Any, NamedTuple
 
 from ._raw import ffi, lib
-from .epoch import Ask, Epoch, Mark, ask_of
+from .epoch import Epoch, Mark
 from .errors import Refused, said, said_or_nothing
 from .given import Octets, clock, octets, put, put_owners, u8, u32, u64
 from .handle import Plays
@@ -34,6 +34,7 @@ class Match:
     owners: Sequence[int]
     number: int | Sequence[int]
     digest: int = 0  # of all else that has to be alike at all machines
+    comers: int = 0  # who may come to a match that goes on: see `ticket`. 0: anybody whom a mark has come
     silent_after: int = SILENT_AFTER  # 5,000: milliseconds after which a machine is gone that answers nothing; 0: it never is
     notify_after: int = NOTIFY_AFTER  # 750: after which INTERRUPTED and STALLED tell of one; 0: neither is told
     stalled_after: int = 0  # after which a machine is gone that gives no words; 0: it never is
@@ -53,7 +54,7 @@ class Match:
                 raw.numbers[at] = u64(f"number[{at}]", number)
         put_owners(raw.owners, self.owners)
         raw.draw = drawn() if self.draw is None else u64("draw", self.draw)
-        put(raw, self, "digest", u64)
+        put(raw, self, "digest comers", u64)
         put(raw, self, "silent_after notify_after stalled_after words held_turns")
         return raw
 
@@ -106,8 +107,7 @@ class Peer(Owned):
 
     With an epoch the match goes on in epochs, beginning with this one, and carries; all machines are opened so, or none. The epoch says
     the owners, the machines and the words of the match, and the session's threshold and its own players' delays are those of it. In
-    each turn, before the session is given words: `poll`, `answer` who asks to come (`ask`), and `go_on`. After `send` to a machine,
-    send it what `send_before` has too.
+    each turn, before the session is given words: `poll`, then `go_on`. After `send` to a machine, send it what `send_before` has too.
     """
 
     def __init__(self, session: Plays, match: Match, epoch: Epoch | None = None) -> None:
@@ -289,18 +289,6 @@ class Peer(Owned):
         ends it before, this one is forgotten."""
         with self._lock:
             said(lib.fazgrond_peer_mark(self._at(), self.session._at(), u8("player", player), (mark or Mark())._raw()))
-
-    def ask(self) -> Ask | None:
-        """Who asks to come by a mark, and wasn't answered yet: the epoch doesn't end before."""
-        ask = ffi.new("fazgrond_ask *")
-        with self._lock:
-            return ask_of(ask) if said_or_nothing(lib.fazgrond_peer_ask(self._at(), ask)) else None
-
-    def answer(self, player: int, is_welcome: bool) -> None:
-        """Says whether whoever is to come by this player's mark is welcome. All machines of the match have to say the same: go by the
-        ticket alone. Nothing happens if the match doesn't go on in epochs."""
-        with self._lock:
-            said_or_nothing(lib.fazgrond_peer_answer(self._at(), u8("player", player), bool(is_welcome)))
 
     def go_on(self) -> int | None:
         """Goes on in the next epoch if this one is over, after `poll` in each turn: at what frame of it the session is. None if this

@@ -72,7 +72,8 @@ impl Epoch {
 /// What is to be otherwise in the next epoch of a match.
 ///
 /// It is void, as if it weren't there, if its threshold is over 15 or a delay over 8, if it gives a delay to a player of another
-/// machine, or if whoever is to come isn't welcome. Of each player the first mark of an epoch counts alone, even if it is void.
+/// machine, or if somebody is to come by a [`ticket`] that isn't of the match's [`comers`](Match::comers). Of each player the first
+/// mark of an epoch counts alone, even if it is void.
 #[derive(Clone, Debug)]
 #[repr(C)]
 pub struct Mark {
@@ -116,8 +117,8 @@ impl Mark {
         self
     }
 
-    /// Somebody comes, whom the program knows by this ticket, and is to own these players: of an input of several words its first
-    /// one is named. Where a player isn't nobody's, the lowest one that is takes its place.
+    /// Somebody comes by this [`ticket`], and is to own these players: of an input of several words its first one is named. Where a
+    /// player isn't nobody's, the lowest one that is takes its place.
     ///
     /// # Panics
     ///
@@ -131,20 +132,8 @@ impl Mark {
     }
 }
 
-/// Somebody who asks to come, by a mark.
-#[derive(Clone, PartialEq, Eq, Debug)]
-pub struct Ask {
-    /// By whose mark.
-    pub player: u8,
-    /// By what the program knows who it is.
-    pub ticket: u64,
-    /// Which players it is to own.
-    pub comes: Vec<u8>,
-}
-
-impl Ask {
-    pub(crate) fn of(raw: &raw::Ask) -> Ask {
-        let comes = (1..).zip(&raw.comes).filter(|(_, is_to_own)| **is_to_own != 0);
-        Ask { player: raw.player as u8, ticket: raw.ticket, comes: comes.map(|(player, _)| player).collect() }
-    }
+/// The ticket by which somebody comes to a match with these [`comers`](Match::comers), under a name of the program's choice.
+pub fn ticket(comers: u64, name: u32) -> u64 {
+    // SAFETY: it takes nothing but numbers.
+    unsafe { raw::fazgrond_ticket(comers, name) }
 }

@@ -115,7 +115,7 @@ mod settings;
 mod state;
 mod sync;
 
-pub use epoch::{Ask, Epoch, Mark};
+pub use epoch::{ticket, Epoch, Mark};
 pub use error::Error;
 pub use habits::{Foreseen, Habits, GUESS_WORDS};
 pub use handle::{Entry, Handle, Heard, Reached, Request, Requests};

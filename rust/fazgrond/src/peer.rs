@@ -1,4 +1,4 @@
-use crate::epoch::{Ask, Epoch, Mark};
+use crate::epoch::{Epoch, Mark};
 use crate::error::{said, Error};
 use crate::handle::{numbered, Handle, Reached};
 use crate::owned::{answered, Owned};
@@ -24,6 +24,7 @@ pub struct Match {
     numbers: [u64; MACHINES],
     draw: u64,
     digest: u64,
+    comers: u64,
     me: u32,
     machines: u32,
     owners: [u32; PLAYERS],
@@ -50,6 +51,7 @@ impl Match {
             numbers: [0; MACHINES],
             draw,
             digest: 0,
+            comers: 0,
             me: me.into(),
             machines: machines.into(),
             owners: owners_of(owners),
@@ -74,6 +76,11 @@ impl Match {
     /// A digest of all else that has to be alike at all machines.
     pub fn digest(self, digest: u64) -> Match {
         Match { digest, ..self }
+    }
+
+    /// Who may come to a match that goes on: see [`ticket`](crate::ticket). 0: anybody whom a mark has come.
+    pub fn comers(self, comers: u64) -> Match {
+        Match { comers, ..self }
     }
 
     /// After how many milliseconds a machine is gone that answers nothing. 0: it never is.
@@ -171,7 +178,7 @@ pub enum Field {
     Machines,
     /// The owners of the players.
     Owners,
-    /// The digest.
+    /// The digest, or who may come, or whether it goes on in epochs.
     Digest,
     /// The number of words of an input.
     Words,
@@ -218,7 +225,7 @@ pub enum Event {
         /// The machine.
         machine: u8,
     },
-    /// A machine is gone for good.
+    /// A machine is gone for good. So is one that a mark has let in, and that doesn't come.
     Left {
         /// The machine.
         machine: u8,
@@ -468,9 +475,8 @@ impl Peer {
     /// own players, are those of the epoch; else it is refused with [`Error::InvalidRequest`]. Who comes later opens with what the
     /// others' [`epoch`](Peer::epoch) says once its epoch has begun.
     ///
-    /// In each turn, before the session is given its own players' words: hear what came, [`poll`](Peer::poll),
-    /// [`answer`](Peer::answer) who [`asks`](Peer::ask) to come, and [`go on`](Peer::go_on). After [`send`](Peer::send) send each
-    /// machine what [`send_before`](Peer::send_before) has for it too.
+    /// In each turn, before the session is given its own players' words: hear what came, [`poll`](Peer::poll), and
+    /// [`go on`](Peer::go_on). After [`send`](Peer::send) send each machine what [`send_before`](Peer::send_before) has for it too.
     ///
     /// # Panics
     ///
@@ -645,17 +651,6 @@ impl Peer {
     /// [`Error::InvalidPlayer`] if it isn't the first word of an input of this machine.
     pub fn mark(&mut self, session: &impl Plays, player: u8, mark: &Mark) -> Result<(), Error> {
         said(unsafe { raw::fazgrond_peer_mark(self.raw(), session.raw(), player, mark) })
-    }
-
-    /// Who asks to come by a mark, and wasn't answered yet: the epoch doesn't end before.
-    pub fn ask(&self) -> Option<Ask> {
-        answered(|out| unsafe { raw::fazgrond_peer_ask(self.raw(), out) }).map(|raw| Ask::of(&raw))
-    }
-
-    /// Says whether whoever is to come by this player's mark is welcome. All machines of the match have to say the same: go by the
-    /// ticket alone. Nothing happens if the match doesn't go on in epochs.
-    pub fn answer(&mut self, player: u8, is_welcome: bool) {
-        let _lasts = unsafe { raw::fazgrond_peer_answer(self.raw(), player, is_welcome.into()) };
     }
 
     /// Goes on in the next epoch if this one is over, after [`poll`](Peer::poll) in each turn, and answers at what frame of it the session

@@ -86,14 +86,6 @@ pub struct Epoch {
 
 #[repr(C)]
 #[derive(Default)]
-pub struct Ask {
-    pub ticket: u64,
-    pub player: u32,
-    pub comes: [u32; PLAYERS],
-}
-
-#[repr(C)]
-#[derive(Default)]
 pub struct LineState {
     pub rows: u32,
     pub settled: u32,
@@ -125,7 +117,7 @@ pub struct Window {
     pub bits: [u64; WINDOW_PLACES],
 }
 
-pub const VERSION: u32 = 0x000103;
+pub const VERSION: u32 = 0x000200;
 pub const PLAYERS: usize = 8;
 pub const NO_PLAYER: u32 = 255;
 pub const MACHINES: usize = 8;
@@ -309,6 +301,7 @@ extern "C" {
     pub fn fazgrond_peer_hand_over(peer: *mut Peer, session: *mut Session, count: u32) -> i32;
     pub fn fazgrond_peer_hand_over_due(peer: *mut Peer, session: *mut Session, handed: *mut u32) -> i32;
     pub fn fazgrond_peer_is_pressed(peer: *mut Peer, session: *mut Session, flag: *mut u32) -> i32;
+    pub fn fazgrond_ticket(comers: u64, name: u32) -> u64;
     pub fn fazgrond_peer_open_lasting(
         peer: *mut Peer,
         session: *mut Session,
@@ -318,8 +311,6 @@ extern "C" {
     pub fn fazgrond_peer_epoch(peer: *mut Peer, epoch: *mut Epoch) -> i32;
     pub fn fazgrond_peer_has_stayed(peer: *mut Peer, machine: u8, flag: *mut u32) -> i32;
     pub fn fazgrond_peer_mark(peer: *mut Peer, session: *mut Session, player: u8, mark: *const Mark) -> i32;
-    pub fn fazgrond_peer_ask(peer: *mut Peer, ask: *mut Ask) -> i32;
-    pub fn fazgrond_peer_answer(peer: *mut Peer, player: u8, is_welcome: u32) -> i32;
     pub fn fazgrond_peer_go_on(peer: *mut Peer, session: *mut Session, frames: *mut u32) -> i32;
     pub fn fazgrond_peer_send_before(
         peer: *mut Peer,

@@ -2,13 +2,17 @@
 //! Somebody watches each of them, and is told of the first epoch after its end.
 
 use fazgrond::{
-    Datagram, Epoch, Error, Event, Game, Handle, Line, LineSettings, Mark, Match, Peer, Request, Row, Session,
+    ticket, Datagram, Epoch, Error, Event, Game, Handle, Line, LineSettings, Mark, Match, Peer, Request, Row, Session,
     Settings, Viewer,
 };
 use std::collections::VecDeque;
 
 const FRAMES: u64 = 200;
 const TURN: u32 = 16;
+
+/// Who may come, and the ticket of the name 3: hashlib of Python made it.
+const COMERS: u64 = 0xfedc_ba98_7654_3210;
+const TICKET: u64 = 0xa00e_d4d7_0000_0003;
 
 /// 31 times the number and the words.
 struct Sum(u32);
@@ -52,7 +56,7 @@ struct Machine {
 }
 
 fn of(me: u8) -> Match {
-    Match::new(2, me, &[0, 1], 70 + u64::from(me)).number(7)
+    Match::new(2, me, &[0, 1], 70 + u64::from(me)).number(7).comers(COMERS)
 }
 
 fn machine(me: u8) -> Machine {
@@ -123,10 +127,6 @@ impl Machine {
             let _ = self.peer.receive(&mut self.session, &bytes, now);
         }
         self.peer.poll(&mut self.session, now).unwrap();
-        if let Some(ask) = self.peer.ask() {
-            assert_eq!((ask.player, ask.ticket, ask.comes), (2, 9, vec![1]));
-            self.peer.answer(2, false);
-        }
         self.go_on();
         let frame = self.frame();
         if self.peer.is_running() && frame < FRAMES {
@@ -146,12 +146,13 @@ impl Machine {
     }
 }
 
-/// Which mark a machine puts in a turn. The second one's newcomer isn't welcome.
+/// Which mark a machine puts in a turn. The second one is void, since its tag isn't that of its name. Nobody gets a player by the third
+/// one, for none is free.
 fn mark_in(turn: u32, me: u8) -> Option<Mark> {
     match (turn, me) {
         (40, 0) => Some(Mark::new()),
-        (80, 1) => Some(Mark::new().newcomer(9, &[1])),
-        (120, 0) => Some(Mark::new().threshold(6)),
+        (80, 1) => Some(Mark::new().threshold(7).newcomer(TICKET ^ 1, &[1])),
+        (120, 0) => Some(Mark::new().threshold(6).newcomer(ticket(COMERS, 3), &[2])),
         _ => None,
     }
 }
@@ -178,6 +179,12 @@ fn alone() -> u32 {
         alone.add((0..2).map(|player| word_of(player, frame)));
     }
     alone.0
+}
+
+#[test]
+fn who_may_come() {
+    let made = [0, 3, u32::MAX].map(|name| ticket(COMERS, name));
+    assert_eq!(made, [0xadfa_7423_0000_0000, TICKET, 0x6994_a5dd_ffff_ffff]);
 }
 
 #[test]
@@ -237,7 +244,7 @@ fn a_handle_goes_on() {
     let mut peer = Peer::open_lasting(&mut handle, &of(0), &Epoch::first(&of(0), &settings)).unwrap();
     assert_eq!(peer.go_on(&mut handle), Ok(None));
     assert!(handle.requests().all(|request| !matches!(request, Request::Step(_))));
-    assert_eq!((peer.ask(), peer.send_before(1, 0).is_none()), (None, true));
+    assert!(peer.send_before(1, 0).is_none());
 }
 
 #[test]
@@ -246,9 +253,8 @@ fn what_is_refused() {
     let mut session = Session::open(&settings, Sum(0)).unwrap();
     let mut peer = Peer::open(&mut session, &of(0)).unwrap();
     assert_eq!(peer.mark(&session, 1, &Mark::new()), Err(Error::NoMarks));
-    assert_eq!((peer.epoch(), peer.ask(), peer.go_on(&mut session)), (None, None, Ok(None)));
+    assert_eq!((peer.epoch(), peer.go_on(&mut session)), (None, Ok(None)));
     assert!(stayed(&peer).is_empty() && Line::open(&line_of(0, 21)).unwrap().send_before(&peer, 0).is_none());
-    peer.answer(1, true);
     let epoch = Epoch { threshold: 7, ..Epoch::first(&of(0), &settings) };
     assert_eq!(Peer::open_lasting(&mut session, &of(0), &epoch).map(|_| ()), Err(Error::InvalidRequest));
     let epoch = Epoch { delays: vec![1, 0], ..Epoch::first(&of(0), &settings) };
