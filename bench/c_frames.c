@@ -206,7 +206,6 @@ static void open_machine(machine *at, uint32_t me) {
     match.owners[0] = 0;
     match.owners[1] = 1;
     match.draw = me + 1;
-    match.silent_after = 5000;
     fazgrond_one_number(&match, 7);
     must(fazgrond_open(&at->match.session, &settings));
     must(fazgrond_peer_open(&at->peer, &at->match.session, &match));

@@ -115,7 +115,6 @@ static void open_machine(uint32_t me, uint32_t count) {
     for (uint32_t player = 0; player < count; player++)
         settings.delays[player] = 2;
     match.draw = me + 1;
-    match.silent_after = 5000;
     fazgrond_one_number(&match, 7);
     fazgrond_epoch epoch = fazgrond_epoch_for(&match, &settings);
     for (uint32_t player = 0; player < count; player++)

@@ -77,11 +77,10 @@ struct Machine {
     fazgrond::Datagram came = {};
 
     explicit Machine(std::uint8_t number) : me(number) {
-        fazgrond::Match match = fazgrond_match_for(2, me);
+        fazgrond::Match match = fazgrond::match_of(2, me);
         match.owners[0] = 0;
         match.owners[1] = 1;
         match.draw = me + 1;
-        match.silent_after = 5000;
         fazgrond_one_number(&match, 7);
         must(session.open(fazgrond::settings_of(2, 1u << me)));
         must(peer.open(session, match));

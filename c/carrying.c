@@ -1,7 +1,7 @@
 /* Machines that carry for each other: what the calls refuse, and matches of three and four in one process whose lines break, both ways or
- * one, with words held back and not, and with memory refused at each place. Nobody may be gone, and all have to come to the state
- * of the game that is run once over all words. Says nothing if all is as it has to be. `carrying few` refuses a tenth of the
- * allocations. */
+ * one, with words held back and not, with old plays that come again, and with memory refused at each place. Nobody may be gone, and all
+ * have to come to the state of the game that is run once over all words. Says nothing if all is as it has to be. `carrying few` refuses
+ * a tenth of the allocations. */
 #include <fazgrond.h>
 #include <stdbool.h>
 #include <stdio.h>
@@ -340,6 +340,36 @@ static void was_never_there(const char *name, terms of, uint32_t one, uint32_t o
     close_all();
 }
 
+/* A play that one machine has sent another, and that comes in the next turn. */
+static datagram play_on_the_way(uint32_t from, uint32_t to) {
+    enum { SENDER = 12, KIND = 13, PLAY = 1 };
+    for (size_t at = 0; at < all[to].on_the_way; at++)
+        if (all[to].coming[at].bytes[SENDER] == from && all[to].coming[at].bytes[KIND] == PLAY)
+            return all[to].coming[at];
+    IS(false, true);
+    return (datagram){ 0 };
+}
+
+/* Whoever holds a line back has kept one play each way, and sends it again and again. By that nobody hears the other one. */
+static void is_copied(const char *name, terms of, uint32_t one, uint32_t other, uint32_t every) {
+    of_what = name;
+    open_all(of);
+    run(80);
+    datagram from_one = play_on_the_way(one, other), from_other = play_on_the_way(other, one);
+    cut(one, other, true);
+    for (uint32_t time = 0; time < 200; time++) {
+        run(1);
+        if (time % every == 0) {
+            all[one].coming[all[one].on_the_way++] = from_other;
+            all[other].coming[all[other].on_the_way++] = from_one;
+        }
+    }
+    run_to_the_end(1000);
+    all_are_there();
+    close_all();
+    IS(out, 0);
+}
+
 /* Of four, those of a chain hear each other alone: 0 - 1 - 2 - 3. */
 static void chain(terms of) {
     of_what = "a chain of four";
@@ -528,6 +558,8 @@ int main(int count, char **words) {
     breaks("a line breaks, and words are held back", held_back(three), 0, 1, true);
     breaks("a line breaks one way, and words are held back", held_back(three), 2, 0, false);
     breaks("a line of four breaks", of_four(three), 1, 3, true);
+    for (uint32_t every = 1; every <= 16; every += 4)
+        is_copied("an old play comes again on a broken line", every < 9 ? three : of_four(three), 0, 1, every);
     was_never_there("a line breaks for good", three, 0, 2);
     was_never_there("a line breaks for good, and words are held back", held_back(three), 1, 2);
     chain(three);

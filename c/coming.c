@@ -29,6 +29,8 @@ static void is(int64_t got, int64_t wanted, int line) {
 
 /* ---- Places, at each of which a program runs or not. Place p has player p, if it has one, and is machine p. Turns take 16 ms. */
 
+#define COMERS 0x636f6d657273u
+
 enum { PLACES = 5, SLOTS = 64, KEPT = 8192, UNDER_WAY = 4096, TURN = 16, NOBODY = 99, STEPS = 16, MOST_STATE = 1 << 20 };
 
 typedef struct datagram {
@@ -95,8 +97,6 @@ static uint32_t now_of(uint32_t me) { return turn * TURN + me * 1000003; }
 static uint64_t number_of(uint32_t one, uint32_t other) {
     return 0x1234567890abcdefu + (one < other ? one * 16 + other : other * 16 + one);
 }
-
-static uint64_t ticket_of(uint32_t place) { return 1000 + place; }
 
 static uint32_t players_of(uint32_t place) { return place < with.players ? 1u << place : 0; }
 
@@ -213,7 +213,7 @@ static void begin_to_play(uint32_t at, const fazgrond_epoch *epoch, uint32_t me)
             settings.delays[player] = epoch->delays[player];
         }
     match.draw = ++openings;
-    match.silent_after = 5000;
+    match.comers = COMERS;
     fazgrond_one_number(&match, 7);
     self->epoch = *epoch;
     self->me = me;
@@ -243,7 +243,7 @@ static void begin_program(uint32_t at) {
     for (uint32_t other = 0; other < PLACES; other++)
         if (other != at) {
             faz_seat *seat = &self->hosting.seat[other];
-            *seat = (faz_seat){ .is_taken = true, .number = number_of(at, other), .ticket = ticket_of(other),
+            *seat = (faz_seat){ .is_taken = true, .number = number_of(at, other), .ticket = fazgrond_ticket(COMERS, other),
                                 .players = players_of(other) };
         }
 }
@@ -409,7 +409,6 @@ static void take_turn_in_match(uint32_t at) {
     OK(fazgrond_peer_is_running(&self->peer, &is_running));
     hear_events(self);
     if (is_running != 0) {
-        faz_hosting_answer(&self->hosting);
         go_on(at);
         faz_hosting_turn(&self->hosting, now_of(at));
         play(at);

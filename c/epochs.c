@@ -1,10 +1,12 @@
 /* Matches that go on in epochs: what the calls answer and refuse; seams by marks that change nothing, a delay or the threshold, by two
- * marks at once and many one after another, beside a machine that stops, over broken lines, under loss and with words held back; who
- * asks to come; who watches over a seam; and worlds that were drawn. Which rows each machine has settled in which epoch, by which mark an
- * epoch ended, how the next one opened and who has stayed in it, is compared with that of the others, with the words that the players
- * gave, and with what the marks say; each state with that of the game that is run once over the rows. The last line is
- * `N passed, M failed`. `epochs COUNT [SEED]` draws so many worlds, in place of 60; `epochs few` plays few of each kind, `epochs each`
+ * marks at once and many one after another, beside a machine that stops or leaves, over broken lines, under loss and with words held
+ * back; who comes, with which ticket, or never; who watches over a seam; and worlds that were drawn. Which rows each machine has
+ * settled in which epoch, by which mark an epoch ended, how the next one opened and who has stayed in it, is compared with that of the
+ * others, with the words that the players gave, and with what the marks say; each state with that of the game that is run once over the
+ * rows. The last line is `N passed, M failed`. `epochs COUNT [SEED]` draws so many worlds, in place of 60; `epochs few` plays few of each kind, `epochs each`
  * one; `epochs long` plays on past the last frame that a session has. */
+#include "sha256.h"
+
 #include <fazgrond.h>
 #include <setjmp.h>
 #include <stdbool.h>
@@ -57,7 +59,7 @@ typedef struct record {
 typedef struct machine {
     fazgrond_session session;
     fazgrond_peer peer;
-    bool is_here, was_running, is_closing;
+    bool is_here, is_out, was_running, is_closing; /* is_out: the others have put it out, and it takes its turns all the same */
     state now, saved[SLOTS], serial;
     bool is_used[SLOTS];
     fazgrond_epoch epochs[EPOCHS];
@@ -68,18 +70,17 @@ typedef struct machine {
     uint32_t given[FAZGROND_PLAYERS][KEPT], gave[FAZGROND_PLAYERS];
     uint64_t known[FAZGROND_PLAYERS];
     uint32_t refused_at[KEPT], stood_at[KEPT]; /* of each turn: whether a word was refused in it, or no frame was run */
-    uint32_t wait, left[MOST];
+    uint32_t wait, left[MOST], dropped; /* how often it was told that another one is gone, and that it is itself */
     datagram line[UNDER_WAY];
     size_t on_the_way;
 } machine;
-
-enum { NOBODY_ANSWERS, ALL_REFUSE, ALL_WELCOME };
 
 /* How a match is played. Datagrams come `latency` turns later, or up to `jitter` more; of 100 `loss` are lost. */
 typedef struct terms {
     uint32_t machines, players, words, threshold, limit, held_turns, silent_after;
     uint32_t owners[FAZGROND_PLAYERS], delays[FAZGROND_PLAYERS];
-    uint32_t frames, latency, jitter, loss, answers;
+    uint64_t comers;
+    uint32_t frames, latency, jitter, loss;
     bool tells_all; /* what has come is played before an epoch ends, so that all its rows are told of it afterwards */
     bool is_steady; /* a player's words are all the same, so that what is predicted of them is right */
 } terms;
@@ -121,7 +122,7 @@ static terms terms_for(uint32_t machines) {
         of.owners[at] = at < machines ? at : FAZGROND_NO_PLAYER;
     of.frames = 300;
     of.latency = 2;
-    of.answers = ALL_WELCOME;
+    of.comers = 0x123456789abcdef;
     return of;
 }
 
@@ -287,6 +288,7 @@ static fazgrond_epoch first_epoch(void) {
 static fazgrond_match match_of(uint32_t me) {
     fazgrond_match match = fazgrond_match_for(with.machines, me);
     match.draw = ++openings;
+    match.comers = with.comers;
     match.held_turns = with.held_turns;
     match.silent_after = with.silent_after;
     match.words = with.words;
@@ -468,12 +470,6 @@ static void hear(uint32_t me) {
     self->on_the_way = rest;
 }
 
-static void answer_all(machine *self) {
-    fazgrond_ask ask;
-    while (with.answers != NOBODY_ANSWERS && fazgrond_peer_ask(&self->peer, &ask) == FAZGROND_OK)
-        OK(fazgrond_peer_answer(&self->peer, (uint8_t)ask.player, with.answers == ALL_WELCOME));
-}
-
 /* Of each own player the words past the end are those that it gave, as many as count by the new delay; where it gave fewer, the last
  * one again. */
 static void give_again(uint32_t me, uint32_t frames) {
@@ -611,18 +607,26 @@ static void play(uint32_t me) {
     OK(fazgrond_peer_note_settled(&self->peer, &self->session, self->serial.mixed));
 }
 
-/* Nobody who is there is gone, plays another game or is refused. */
+/* Nobody who is there is gone or missing, plays another game or is refused. */
+static void hear_event(machine *self, const fazgrond_event *event) {
+    bool is_there = event->machine < MOST && all[event->machine].is_here && !all[event->machine].is_out;
+    self->wait = event->code == FAZGROND_TIME_SYNC ? event->frames_ahead : self->wait;
+    if (event->code == FAZGROND_LEFT) {
+        IS(event->machine < MOST && !is_there, true);
+        self->left[event->machine]++;
+    }
+    IS(event->code == FAZGROND_MISSING && is_there, false);
+    IS(event->code == FAZGROND_DESYNC || event->code == FAZGROND_REFUSED || event->code == FAZGROND_MISMATCH, false);
+    IS(event->code == FAZGROND_DROPPED || event->code == FAZGROND_RESTARTED, false);
+}
+
 static void hear_events(machine *self) {
     fazgrond_event event;
-    while (fazgrond_peer_event(&self->peer, &event) == FAZGROND_OK) {
-        self->wait = event.code == FAZGROND_TIME_SYNC ? event.frames_ahead : self->wait;
-        if (event.code == FAZGROND_LEFT) {
-            IS(event.machine < MOST && !all[event.machine].is_here, true);
-            self->left[event.machine]++;
-        }
-        IS(event.code == FAZGROND_DESYNC || event.code == FAZGROND_REFUSED || event.code == FAZGROND_MISMATCH, false);
-        IS(event.code == FAZGROND_DROPPED || event.code == FAZGROND_RESTARTED, false);
-    }
+    while (fazgrond_peer_event(&self->peer, &event) == FAZGROND_OK)
+        if (self->is_out)
+            self->dropped += event.code == FAZGROND_DROPPED;
+        else
+            hear_event(self, &event);
 }
 
 static void send_to(uint32_t me, uint32_t to) {
@@ -665,7 +669,6 @@ static void take_turn(uint32_t me) {
     IS(is_running == 0 && self->was_running, false);
     self->was_running = is_running != 0;
     if (is_running != 0) {
-        answer_all(self);
         go_on(me);
         hand_over(self);
         put_planned(me);
@@ -736,15 +739,26 @@ static void are_given(const machine *self, uint64_t frame) {
     }
 }
 
-/* Whether a mark is void in an epoch: a threshold that its sessions can't have, a delay that is too long or isn't the giver's, or who
- * comes by it isn't welcome. */
+/* What a ticket with this name has in its upper half, by another SHA-256 than the library's. */
+static uint64_t upper_half(uint64_t comers, uint32_t name) {
+    sha256 made = sha256_begin();
+    uint8_t bytes[16];
+    seal_put(bytes, comers);
+    seal_put(bytes + 8, name);
+    sha256_add(&made, bytes, sizeof bytes);
+    return sha256_end(&made) >> 32;
+}
+
+/* Whether a mark is void in an epoch: a threshold that its sessions can't have, a delay that is too long or isn't the giver's, or
+ * somebody who comes by another ticket than one of the match's. */
 static bool is_void(const made *one, const fazgrond_epoch *epoch) {
     for (uint32_t player = 0; player < FAZGROND_PLAYERS; player++)
         if (one->mark.delays[player] != FAZGROND_AS_BEFORE
             && (one->mark.delays[player] > MOST_DELAY || epoch->owners[player] != one->machine))
             return true;
-    return one->mark.threshold > (with.players <= 4 ? 8u : 15u)
-        || (brings_somebody(&one->mark) && with.answers != ALL_WELCOME);
+    uint64_t ticket = one->mark.ticket;
+    bool is_good = with.comers == 0 || ticket >> 32 == upper_half(with.comers, (uint32_t)ticket);
+    return one->mark.threshold > (with.players <= 4 ? 8u : 15u) || (brings_somebody(&one->mark) && !is_good);
 }
 
 /* By which mark an epoch ended, by its last row: of those on words of it the lowest player's. */
@@ -1190,72 +1204,91 @@ static void stands_at_no_seam(uint32_t latency, uint32_t machines) {
 
 /* ---- Who comes. */
 
-/* Two machines, and a player whom nobody owns. */
-static terms one_is_free(uint32_t answers) {
-    terms of = terms_for(2);
-    of.players = 3;
-    of.owners[2] = FAZGROND_NOBODY;
-    of.answers = answers;
+/* Tickets that hashlib of Python has made. */
+static void are_tickets(uint32_t unused, uint32_t none) {
+    static const struct {
+        uint64_t comers, ticket;
+        uint32_t name;
+    } known[] = {
+        { 0, 0x374708ff00000000, 0 }, { 1, 0x7838258200000000, 0 }, { 1, 0x532deabf00000001, 1 },
+        { 0x123456789abcdef, 0x59c098da00000007, 7 }, { UINT64_MAX, 0x4ffad116ffffffff, UINT32_MAX }, { 5, 0xc4ef8d80ffffffff, UINT32_MAX },
+    };
+    (void)unused, (void)none;
+    for (size_t at = 0; at < sizeof known / sizeof *known; at++) {
+        IS(fazgrond_ticket(known[at].comers, known[at].name) == known[at].ticket, true);
+        IS(upper_half(known[at].comers, known[at].name), known[at].ticket >> 32);
+    }
+}
+
+/* So many machines, and a player whom nobody owns. */
+static terms one_is_free(uint32_t machines) {
+    terms of = terms_for(machines);
+    of.players = machines + 1;
+    of.owners[machines] = FAZGROND_NOBODY;
     return of;
 }
 
-/* Both machines are asked whether whoever has this ticket may have the third player, by a mark of a player. */
-static void are_asked(uint32_t player, uint64_t ticket) {
-    for (uint32_t me = 0; me < 2; me++) {
-        fazgrond_ask ask = { 0 };
-        OK(fazgrond_peer_ask(&all[me].peer, &ask));
-        IS(ask.ticket == ticket, true);
-        IS(ask.player, player + 1);
-        for (uint32_t at = 0; at < FAZGROND_PLAYERS; at++)
-            IS(ask.comes[at], at == 2);
-    }
+static uint64_t ticket_of(uint32_t name) { return fazgrond_ticket(with.comers, name); }
+
+enum { WRONG_TICKETS = 5 };
+
+/* A tag with another bit, that of another name or of another match, halves that are exchanged, and none. */
+static uint64_t wrong_ticket(uint32_t how) {
+    uint64_t right = ticket_of(6), others = fazgrond_ticket(with.comers + 1, 6);
+    uint64_t all_wrong[WRONG_TICKETS] = { right ^ 1ull << 32, right + 1, others, right << 32 | right >> 32, 0 };
+    return all_wrong[how];
 }
 
-static void are_not_asked(void) {
-    for (uint32_t me = 0; me < 2; me++) {
-        fazgrond_ask ask = { .player = 77 };
-        IS(fazgrond_peer_ask(&all[me].peer, &ask), FAZGROND_NOTHING);
-        IS(ask.player, 77);
-    }
-}
-
-/* An epoch doesn't end as long as who asks isn't answered, nor if all answer no. Another machine's mark ends it then. */
-static void is_refused(uint32_t marker, uint32_t unused) {
-    (void)unused;
-    open_all(one_is_free(NOBODY_ANSWERS));
+/* A mark with a wrong ticket is void at all machines: nobody stands still or leaves for it, and the epoch ends by another one's mark. */
+static void has_wrong_ticket(uint32_t machines, uint32_t how) {
+    uint32_t marker = how % machines, other = (how + 1) % machines;
+    open_all(one_is_free(machines));
     run(80);
-    are_not_asked();
-    OK(put(marker, marker, mark_of_who_comes(2, 0x123456789abcdefu)));
+    OK(put(marker, marker, mark_of_who_comes(machines, wrong_ticket(how))));
+    uint64_t settled = settled_by_all();
     run(60);
-    are_asked(marker, 0x123456789abcdefu);
-    IS(epochs_played(), 1);
-    with.answers = ALL_REFUSE;
-    run(60);
-    are_not_asked();
+    IS(settled_by_all() >= settled + 55, true);
     all_agree();
     IS(epochs_played(), 1);
-    OK(put(1 - marker, 1 - marker, mark_of_nothing()));
+    OK(put(other, other, mark_of_nothing()));
     run_to_the_end(1000);
     IS(epochs_played(), 2);
-    IS(owner_of(&all[0], 2), FAZGROND_NOBODY);
+    IS(owner_of(&all[0], machines), FAZGROND_NOBODY);
 }
 
-/* One that answers later goes on later, and comes to the same. */
-static void answers_late(uint32_t late, uint32_t turns) {
-    open_all(one_is_free(NOBODY_ANSWERS));
+/* So many turns from now at most, until each machine that is there was told that another one has left. */
+static void run_until_left(uint32_t gone, uint32_t turns) {
+    for (uint32_t me = 0; me < MOST; me++)
+        while (all[me].is_here && all[me].left[gone] == 0) {
+            IS(turns-- > 0, true);
+            run(1);
+        }
+}
+
+/* Who is let in and never comes has left once the time of silence has passed since the seam, or ten seconds if there is none. Some of the
+ * machines may put it out before: the match goes on all the same. */
+static void never_comes(uint32_t silent_after, uint32_t put_out_by) {
+    terms of = one_is_free(3);
+    uint32_t patience = (silent_after > 0 ? silent_after : 10000) / TURN;
+    of.silent_after = silent_after;
+    open_all(of);
     run(80);
-    OK(put(0, 0, mark_of_who_comes(2, 5)));
-    run(40);
-    are_asked(0, 5);
-    OK(fazgrond_peer_answer(&all[1 - late].peer, 1, 0));
-    run(turns);
-    IS(epochs_played(), 1);
-    OK(fazgrond_peer_answer(&all[late].peer, 1, 0));
-    with.answers = ALL_REFUSE;
-    run(40);
-    OK(put(1, 1, mark_of_nothing()));
+    for (uint32_t me = 0; me < 3; me++)
+        all[me].left[3] = 0; /* the one whom nobody plays at first */
+    OK(put(0, 0, mark_of_who_comes(3, ticket_of(6))));
+    run_to_the_seam(2);
+    run(patience - 20);
+    for (uint32_t me = 0; me < 3; me++)
+        IS(all[me].left[3], 0);
+    for (uint32_t me = 0; me < put_out_by; me++)
+        OK(fazgrond_peer_disconnect(&all[me].peer, 3));
+    run_until_left(3, 60);
+    for (uint32_t me = 0; me < 3; me++)
+        IS(put_out_by > 0 || turn + 10 > all[me].seam_turns[1] + patience, true);
     run_to_the_end(1000);
     IS(epochs_played(), 2);
+    for (uint32_t me = 0; me < 3; me++)
+        IS(all[me].left[3], 1);
 }
 
 /* Whom of the first three a machine knows to have been in the epoch before. */
@@ -1265,12 +1298,15 @@ static void have_stayed(uint32_t me, uint32_t zero, uint32_t one, uint32_t two) 
     IS(has_stayed(&all[me], 2), two);
 }
 
-/* Who is welcome gets the lowest machine's number that is free and the player, opens the epoch with the state at its beginning, and
+/* Who comes gets the lowest machine's number that is free and the player, opens the epoch with the state at its beginning, and
  * plays. */
 static void comes(uint32_t marker, uint32_t late) {
-    open_all(one_is_free(ALL_WELCOME));
+    terms of = one_is_free(2);
+    of.silent_after = 3000;
+    of.comers *= late == 0; /* or whoever has any ticket */
+    open_all(of);
     run(80);
-    OK(put(marker, marker, mark_of_who_comes(2, 6)));
+    OK(put(marker, marker, mark_of_who_comes(2, late == 0 ? ticket_of(6) : 6)));
     run(60 + late);
     IS(all[0].epoch_count, 2);
     IS(all[1].epoch_count, 2);
@@ -1299,9 +1335,9 @@ static void comes_in_place(uint32_t stopped, uint32_t marker) {
     stop(stopped);
     run(120);
     all_agree();
-    OK(put(marker, marker, mark_of_who_comes(stopped, 8)));
+    OK(put(marker, marker, mark_of_who_comes(stopped, ticket_of(8))));
     run_to_the_seam(marker);
-    run(60);
+    run(30);
     fazgrond_epoch epoch = *epoch_of(&all[marker]);
     IS(epoch.owners[stopped], stopped);
     close_machine(&all[stopped]);
@@ -1314,6 +1350,96 @@ static void comes_in_place(uint32_t stopped, uint32_t marker) {
     IS(epochs_played(), 3);
     for (uint32_t me = 0; me < 3; me++)
         have_stayed(me, 1, 1, 1);
+}
+
+/* ---- Who leaves, and who means another match. */
+
+static void say_bye(uint32_t me) {
+    uint8_t bytes[FAZGROND_DATAGRAM];
+    size_t length;
+    for (uint8_t to = 0; to < MOST; to++)
+        if (fazgrond_peer_bye(&all[me].peer, to, bytes, sizeof bytes, &length) == FAZGROND_OK)
+            post(me, to, bytes, length);
+}
+
+/* One of three leaves so many turns after a mark. In whichever turn that is heard, also in that of the seam, it is told, once. */
+static void leaves_near(uint32_t turns, uint32_t latency) {
+    terms of = terms_for(3);
+    of.latency = latency;
+    open_all(of);
+    run(80);
+    OK(put(0, 0, mark_of_nothing()));
+    run(turns);
+    for (uint32_t me = 0; me < 3; me++)
+        take_turn(me);
+    say_bye(2); /* behind its last words */
+    stop(2);
+    turn++;
+    run(60);
+    for (uint32_t me = 0; me < 2; me++)
+        IS(all[me].left[2], 1);
+    run_to_the_end(1000);
+    IS(epochs_played(), 2);
+}
+
+/* Two of three put the third one out, which plays on: it is told once that the match is over. */
+static void is_put_out(uint32_t between, uint32_t none) {
+    (void)none;
+    open_all(terms_for(3));
+    run(80);
+    all[2].is_out = true;
+    OK(fazgrond_peer_disconnect(&all[0].peer, 2));
+    run(between);
+    OK(fazgrond_peer_disconnect(&all[1].peer, 2));
+    run(200);
+    IS(all[2].dropped, 1);
+    stop(2);
+    run_to_the_end(1000);
+}
+
+/* Opens one of two machines whose match has these comers, and goes on or doesn't. */
+static void open_with(uint32_t me, uint64_t comers, bool lasts) {
+    fazgrond_epoch epoch = first_epoch();
+    machine *self = &all[me];
+    with.comers = comers;
+    fazgrond_match match = match_of(me);
+    open_session(me, &epoch, (state){ 1, 0 });
+    OK(lasts ? fazgrond_peer_open_lasting(&self->peer, &self->session, &match, &epoch)
+             : fazgrond_peer_open_carrying(&self->peer, &self->session, &match));
+}
+
+static bool is_told_of_another_match(machine *self) {
+    fazgrond_event event;
+    bool is_told = false;
+    while (fazgrond_peer_event(&self->peer, &event) == FAZGROND_OK) {
+        IS(event.code == FAZGROND_MISMATCH || event.code == FAZGROND_SYNCHRONIZING, true);
+        IS(event.code != FAZGROND_MISMATCH || event.field == 3, true);
+        is_told |= event.code == FAZGROND_MISMATCH;
+    }
+    return is_told;
+}
+
+/* Two of whom one has other comers, or goes on alone, are told that they mean other matches, and don't begin. */
+static void means_another(uint32_t how, uint32_t one) {
+    static const struct {
+        uint64_t comers[2];
+        bool lasts[2];
+    } hows[] = { { { 7, 8 }, { true, true } }, { { 7, 0 }, { true, true } }, { { 7, 7 }, { true, false } }, { { 0, 0 }, { true, false } } };
+    uint32_t is_running;
+    bool is_told[2] = { false, false };
+    begin(terms_for(2));
+    for (uint32_t me = 0; me < 2; me++)
+        open_with(me, hows[how].comers[me ^ one], hows[how].lasts[me ^ one]);
+    for (; turn < 60; turn++)
+        for (uint32_t me = 0; me < 2; me++) {
+            hear(me);
+            OK(fazgrond_peer_poll(&all[me].peer, &all[me].session, now_of(me)));
+            OK(fazgrond_peer_is_running(&all[me].peer, &is_running));
+            IS(is_running, 0);
+            is_told[me] |= is_told_of_another_match(&all[me]);
+            send_all(me);
+        }
+    IS(is_told[0] && is_told[1], true);
 }
 
 /* ---- Who watches. */
@@ -1446,7 +1572,6 @@ static void refuses_closed(uint32_t unused, uint32_t none) {
     fazgrond_session closed = FAZGROND_CLOSED;
     fazgrond_epoch epoch;
     fazgrond_mark mark = mark_of_nothing();
-    fazgrond_ask ask;
     uint32_t frames = 77, flag = 77;
     size_t length = 77;
     (void)unused, (void)none;
@@ -1456,8 +1581,6 @@ static void refuses_closed(uint32_t unused, uint32_t none) {
         IS(fazgrond_peer_epoch(other, &epoch), FAZGROND_IS_CLOSED);
         IS(fazgrond_peer_has_stayed(other, 0, &flag), FAZGROND_IS_CLOSED);
         IS(fazgrond_peer_mark(other, &all[0].session, 1, &mark), FAZGROND_IS_CLOSED);
-        IS(fazgrond_peer_ask(other, &ask), FAZGROND_IS_CLOSED);
-        IS(fazgrond_peer_answer(other, 1, 1), FAZGROND_IS_CLOSED);
         IS(fazgrond_peer_go_on(other, &all[0].session, &frames), FAZGROND_IS_CLOSED);
         IS(fazgrond_peer_send_before(other, 1, 0, bytes, sizeof bytes, &length), FAZGROND_IS_CLOSED);
     }
@@ -1532,11 +1655,10 @@ static void refuses_openings(uint32_t unused, uint32_t none) {
     IS(opened(&match, &epoch), FAZGROND_INVALID_REQUEST);
 }
 
-/* A match that doesn't go on in epochs takes no marks, has no epoch and asks nothing. */
+/* A match that doesn't go on in epochs takes no marks and has no epoch. */
 static void has_no_epochs(uint32_t is_carrying, uint32_t none) {
     static uint8_t bytes[FAZGROND_DATAGRAM];
     fazgrond_mark mark = mark_of_nothing();
-    fazgrond_ask ask;
     uint32_t frames = 77, flag = 77;
     size_t length = 77;
     (void)none;
@@ -1552,8 +1674,6 @@ static void has_no_epochs(uint32_t is_carrying, uint32_t none) {
     IS(epoch.id, 77);
     IS(fazgrond_peer_has_stayed(&self->peer, 0, &flag), FAZGROND_NOTHING);
     IS(fazgrond_peer_mark(&self->peer, &self->session, 1, &mark), FAZGROND_NO_MARKS);
-    IS(fazgrond_peer_ask(&self->peer, &ask), FAZGROND_NOTHING);
-    IS(fazgrond_peer_answer(&self->peer, 1, 1), FAZGROND_NOTHING);
     IS(fazgrond_peer_go_on(&self->peer, &self->session, &frames), FAZGROND_NOTHING);
     IS(fazgrond_peer_send_before(&self->peer, 1, 0, bytes, sizeof bytes, &length), FAZGROND_NOTHING);
     IS(fazgrond_line_send_before(&watch_at(0)->line, &self->peer, 0, bytes, sizeof bytes, &length), FAZGROND_NOTHING);
@@ -1812,14 +1932,26 @@ static void try_lines(uint32_t every) {
 }
 
 static void try_comers(void) {
-    tries("who comes is refused", is_refused, 0, 0);
-    tries("who comes is refused", is_refused, 1, 0);
-    tries("one answers late", answers_late, 0, 30);
-    tries("one answers late", answers_late, 1, 90);
+    tries("tickets", are_tickets, 0, 0);
+    for (uint32_t how = 0; how < WRONG_TICKETS; how++)
+        tries("a wrong ticket", has_wrong_ticket, 2 + how % 2, how);
+    for (uint32_t silent_after = 0; silent_after <= 3000; silent_after += 1500)
+        tries("somebody never comes", never_comes, silent_after, silent_after / 1500);
     tries("somebody comes", comes, 0, 0);
     tries("somebody comes", comes, 1, 40);
     for (uint32_t stopped = 1; stopped < 3; stopped++) /* what the first machine had is what the others are compared with */
         tries("somebody comes in another's place", comes_in_place, stopped, (stopped + 1) % 3);
+}
+
+static void try_others(void) {
+    for (uint32_t turns = 0; turns < 14; turns++)
+        for (uint32_t latency = 1; latency <= 2; latency++)
+            tries("one leaves near a mark", leaves_near, turns, latency);
+    for (uint32_t between = 0; between <= 10; between += 5)
+        tries("one is put out", is_put_out, between, 0);
+    for (uint32_t how = 0; how < 4; how++)
+        for (uint32_t one = 0; one < 2; one++)
+            tries("one means another match", means_another, how, one);
 }
 
 static void try_watchers(void) {
@@ -1835,6 +1967,7 @@ static void try_all(uint32_t every) {
     try_stops(every);
     try_lines(every);
     try_comers();
+    try_others();
     try_watchers();
     for (uint32_t latency = 1; latency <= 6; latency += every < 4 ? 1 : 3)
         for (uint32_t machines = 2; machines <= 3; machines++)

@@ -22,7 +22,7 @@ extern "C" {
 #endif
 
 /* The version of this header: major << 16 | minor << 8 | patch. docs/VERSIONS.md says what raises which of them. */
-#define FAZGROND_VERSION 0x000103
+#define FAZGROND_VERSION 0x000200
 
 /* The version of the library that the program runs with. While the major number is 0, a library fits a header with the same major
  * and minor number. If a library knows another size of fazgrond_settings, fazgrond_match or fazgrond_epoch than the header, it opens
@@ -330,13 +330,12 @@ typedef struct fazgrond_peer {
 /* The most machines of a match. */
 #define FAZGROND_MACHINES 8
 
-/* The `silent_after` and `notify_after` with which a match begins in C++ and the other languages, and the `silent_after` of a line in
- * these. In C they are 0 at first, until 0.2.0. */
+/* The `silent_after` and `notify_after` with which a match begins, and the `silent_after` of a line in other languages. */
 #define FAZGROND_SILENT_AFTER 5000
 #define FAZGROND_NOTIFY_AFTER 750
 
 /* The players, limits and masks of the session are the same at each machine, and its local players are those that `me` owns; so
- * are `digest`, `machines`, `owners` and `words`, and the number of each two machines at both of them. Begin with
+ * are `digest`, `comers`, `machines`, `owners` and `words`, and the number of each two machines at both of them. Begin with
  * fazgrond_match_for, so that members which a later version adds have a value too.
  *
  * The draw: 64 bits of the system's source of random bits (getrandom, BCryptGenRandom or the like), drawn anew for each opening
@@ -350,6 +349,8 @@ typedef struct fazgrond_match {
                                           * not read. The same in all places: the match's number */
     uint64_t draw;                       /* drawn for this opening: not 0 */
     uint64_t digest;                     /* of all else that has to be alike at all machines */
+    uint64_t comers;                     /* who may come to a match that goes on: see fazgrond_ticket. 0: anybody whom a mark has
+                                          * come. Of no meaning in a match that doesn't go on */
     uint32_t me;                         /* which machine this is */
     uint32_t machines;                   /* how many there are, 2 to 8 */
     uint32_t owners[FAZGROND_PLAYERS];   /* the machine of each player, player 1 first; FAZGROND_NO_PLAYER if there is none */
@@ -359,7 +360,8 @@ typedef struct fazgrond_match {
     uint32_t notify_after;               /* milliseconds after which FAZGROND_INTERRUPTED tells of a machine of which nothing
                                           * comes, and FAZGROND_STALLED of one that holds this one up; 0: neither is told */
     uint32_t stalled_after;              /* milliseconds after which a machine is gone that answers, and holds this one up since
-                                          * it gives no words; 0: it never is, and the match may stand for good */
+                                          * it gives no words, unless it hasn't begun; 0: it never is, and the match may stand for
+                                          * good */
     uint32_t words;                      /* of how many words a player's input is, 1 to 4: so many of the session's players in a row
                                           * are one player of the match, with one owner. They leave together, and of no frame are some
                                           * of their words taken and others not. Give them one delay, in the session and in marks */
@@ -368,22 +370,23 @@ typedef struct fazgrond_match {
                                           * them another one has */
 } fazgrond_match;
 
-/* A match of so many machines, of which this one is `me`. Nobody is ever silent for too long, no player has an owner, and there
- * are no numbers and no draw yet: set these. */
+/* A match of so many machines, of which this one is `me`, and to which anybody may come. No player has an owner, and there are no
+ * numbers and no draw yet: set these. */
 static inline fazgrond_match fazgrond_match_for(uint32_t machines, uint32_t me) {
     fazgrond_match match;
     int at;
     match.size = (uint32_t)sizeof match;
     match.draw = 0;
     match.digest = 0;
+    match.comers = 0;
     match.me = me;
     match.machines = machines;
     for (at = 0; at < FAZGROND_MACHINES; at++)
         match.numbers[at] = 0;
     for (at = 0; at < FAZGROND_PLAYERS; at++)
         match.owners[at] = FAZGROND_NO_PLAYER;
-    match.silent_after = 0;
-    match.notify_after = 0;
+    match.silent_after = FAZGROND_SILENT_AFTER;
+    match.notify_after = FAZGROND_NOTIFY_AFTER;
     match.stalled_after = 0;
     match.words = 1;
     match.held_turns = 0;
@@ -402,17 +405,21 @@ static inline void fazgrond_one_number(fazgrond_match *match, uint64_t number) {
  * TIME_SYNC: this machine is ahead: give no word for `frames_ahead` turns.
  * INTERRUPTED: `machine` is silent, and gone in `disconnect_in` milliseconds; that is 0 if `silent_after` is. RESUMED: it was
  * heard again.
- * LEFT: `machine` is gone for good. DESYNC: it has another state at the settled frame `frame`.
+ * LEFT: `machine` is gone for good. So is one that a mark has let in, and that isn't there `silent_after` after the seam (10,000
+ * milliseconds if that is 0). DESYNC: it has another state at the settled frame `frame`.
  * MISMATCH: `machine` means another match: `field` is 1 if it has another number of machines, 2 if other owners, 3 if another
- * digest, 4 if inputs of another number of words. It may come in the middle of a match too.
- * DROPPED: the match is over here. Another machine regards this one as gone, or this one was cut off for too long.
+ * digest or other `comers`, or its match alone goes on in epochs, 4 if inputs of another number of words. It may come in the middle
+ * of a match too.
+ * DROPPED: the match is over here. Another machine regards this one as gone, or this one was cut off for too long. Told once in an
+ * epoch.
  * RESTARTED: `machine` was opened anew. It can't come back into this match: its old opening is silent from now on, and gone by
- * that, and its new one waits until you open a match anew too. Told once for each opening.
+ * that, and its new one waits until you open a match anew too. Told once of each machine.
  * STALLED: `machine` is heard, and holds this one up, since it gives no words. If it is to be gone for that, it is in
  * `disconnect_in` milliseconds, else that is 0. Told once, until it gives a word.
- * REFUSED: what `machine` sealed was refused, or a word of it was: its program is broken, or it lies. Told at the first of a run.
- * MISSING: `silent_after` has passed since this peer was opened, or went on into this epoch, and `machine` isn't there yet. Told
- * once. It is waited for, until you disconnect it.
+ * REFUSED: what `machine` sealed was refused, or a word of it was: its program is broken, or it lies. Told as RESTARTED; the stats
+ * count how often.
+ * MISSING: `silent_after` has passed since this peer was opened, and `machine` isn't there yet. Told once. It is waited for, until
+ * you disconnect it.
  * STRANGERS: so it is, and `count` hellos have come that aren't of this match: they are sealed by another number, are of another
  * version, or name this machine's place or one that there isn't. Told once.
  * CUT_OFF: of three machines or more this one hears too few, and so regards none of them as gone. The match is over here in
@@ -574,17 +581,16 @@ int32_t fazgrond_peer_is_pressed(fazgrond_peer *peer, fazgrond_session *session,
  * epoch, and whoever comes may get them. Who comes gets the lowest number of a machine that nobody has. A player that gets another owner
  * has a delay of 2 frames, unless the mark says another one.
  *
- * A mark is void, as if it weren't there, if its threshold is over 15 or a delay over 8, if it gives a delay to a player of another machine,
- * or if whoever is to come isn't welcome. Of each player the first mark of an epoch counts alone, even if it is void.
+ * A mark is void, as if it weren't there, if its threshold is over 15 or a delay over 8, if it gives a delay to a player of another
+ * machine, or if somebody is to come with a ticket that isn't of the match's `comers` (fazgrond_ticket). Of each player the first mark
+ * of an epoch counts alone, even if it is void.
  *
  * A turn of such a match:
  *   fazgrond_peer_receive for each datagram that came, then fazgrond_peer_poll;
- *   fazgrond_peer_is_running: until it says 1, give no words, and skip the next three lines;
- *   fazgrond_peer_answer, if fazgrond_peer_ask has somebody who asks to come;
- *   fazgrond_peer_event until there is none: what waits at a seam is forgotten, and not told again;
+ *   fazgrond_peer_is_running: until it says 1, give no words, and skip the next two lines;
  *   fazgrond_peer_go_on: if it is FAZGROND_OK, carry out the requests;
  *   local words, the advance and its requests, as in any match;
- *   fazgrond_peer_event again. For each other machine fazgrond_peer_send, and then fazgrond_peer_send_before. Then
+ *   fazgrond_peer_event until there is none. For each other machine fazgrond_peer_send, and then fazgrond_peer_send_before. Then
  *   fazgrond_peer_send_more until there is nothing. */
 
 /* The owner of a player whom nobody owns now, and whom somebody who comes may get. It is another thing than FAZGROND_NO_PLAYER: such a
@@ -613,19 +619,12 @@ typedef struct fazgrond_epoch {
 typedef struct fazgrond_mark {
     uint32_t size;                     /* sizeof(fazgrond_mark) */
     uint32_t threshold;                /* the new one, 1 to 15; 0: as before */
-    uint64_t ticket;                   /* by what your program knows who comes: whatever you choose. Of no meaning if nobody comes */
+    uint64_t ticket;                   /* of who comes: see fazgrond_ticket. Of no meaning if nobody comes */
     uint32_t comes[FAZGROND_PLAYERS];  /* 1 for each player that whoever comes is to own, player 1 first, else 0. If all are 0,
                                         * nobody comes. Of an input of several words the first one is named. Where a player isn't
                                         * nobody's, the lowest one that is takes its place */
     uint32_t delays[FAZGROND_PLAYERS]; /* each player's new delay, 0 to 8, or FAZGROND_AS_BEFORE */
 } fazgrond_mark;
-
-/* Who asks to come. */
-typedef struct fazgrond_ask {
-    uint64_t ticket;                  /* that of the mark */
-    uint32_t player;                  /* by whose mark, counted from 1 */
-    uint32_t comes[FAZGROND_PLAYERS]; /* as in the mark */
-} fazgrond_ask;
 
 /* The first epoch of a match whose sessions have these settings: with its owners and the words of its inputs, and the settings'
  * threshold and delays. Settings have a delay for the machine's own players alone, and 0 for others. So if other machines have delays,
@@ -660,6 +659,11 @@ static inline fazgrond_mark fazgrond_mark_for(void) {
     return mark;
 }
 
+/* The ticket by which somebody with this name, a number of your choice, may come to a match with these `comers`: its lower half is the
+ * name, and the upper one is had by those alone who know `comers`. So let all machines of the match know that number, drawn at random
+ * and not 0, and nobody else. A machine that lies can let somebody in by it. With `comers` 0 any ticket is good. */
+uint64_t fazgrond_ticket(uint64_t comers, uint32_t name);
+
 /* Opens a peer whose match goes on in epochs, beginning with this one. It carries, as one of fazgrond_peer_open_carrying. All machines of
  * a match are opened so, or none. Of the match `owners`, `machines` and `words` aren't read, since the epoch says them, but they have to be
  * 255 at most. Answers as fazgrond_peer_open, and FAZGROND_INVALID_REQUEST too if the session's threshold, or a delay of its own players,
@@ -684,14 +688,6 @@ int32_t fazgrond_peer_has_stayed(fazgrond_peer *peer, uint8_t machine, uint32_t 
  * FAZGROND_OTHER_SESSION: as in other calls that take both.
  * FAZGROND_OTHER_VERSION: the mark is of another version's header. */
 int32_t fazgrond_peer_mark(fazgrond_peer *peer, fazgrond_session *session, uint8_t player, const fazgrond_mark *mark);
-
-/* Who asks to come by a mark, and wasn't answered yet: the epoch doesn't end before. FAZGROND_NOTHING: nobody does. */
-int32_t fazgrond_peer_ask(fazgrond_peer *peer, fazgrond_ask *ask);
-
-/* Says whether whoever is to come by this player's mark is welcome (not 0) or isn't (0). All machines of the match have to say the same,
- * or it stands, or falls into parts, and no event says why. So go by the ticket alone: test a signature of whoever arranges the match,
- * say. FAZGROND_NOTHING: the match doesn't go on in epochs. */
-int32_t fazgrond_peer_answer(fazgrond_peer *peer, uint8_t player, uint32_t is_welcome);
 
 /* Goes on in the next epoch, if this one is over. Call it in each turn, after fazgrond_peer_poll and before the session is given words.
  * FAZGROND_NOTHING: this epoch isn't over, or the match doesn't go on in epochs.

@@ -26,7 +26,6 @@ using Event = fazgrond_event;
 using Stats = fazgrond_stats;
 using Epoch = fazgrond_epoch;
 using Mark = fazgrond_mark;
-using Ask = fazgrond_ask;
 using LineSettings = fazgrond_line_settings;
 using LineState = fazgrond_line_state;
 using StateName = fazgrond_state_name;
@@ -118,14 +117,11 @@ inline Settings settings_of(std::uint32_t players, std::uint32_t local) {
     return settings;
 }
 
-// A match of so many machines, of which this one is `me`. Whoever answers nothing is gone after 5,000 milliseconds, and told of after
-// 750; all else is as fazgrond_match_for has it.
-inline Match match_of(std::uint32_t machines, std::uint32_t me) {
-    Match match = fazgrond_match_for(machines, me);
-    match.silent_after = FAZGROND_SILENT_AFTER;
-    match.notify_after = FAZGROND_NOTIFY_AFTER;
-    return match;
-}
+// A match of so many machines, of which this one is `me`, as fazgrond_match_for has it.
+inline Match match_of(std::uint32_t machines, std::uint32_t me) { return fazgrond_match_for(machines, me); }
+
+// The ticket by which somebody with this name may come to a match with these `comers`.
+inline std::uint64_t ticket(std::uint64_t comers, std::uint32_t name) { return fazgrond_ticket(comers, name); }
 
 // A handle of C, which closes by itself.
 struct Closer {
@@ -434,12 +430,6 @@ public:
     Code mark(Session &session, std::uint8_t player, const Mark &mark) {
         return Code(fazgrond_peer_mark(handle.get(), session.handle.get(), player, &mark));
     }
-
-    // Who asks to come by a mark, and wasn't answered yet.
-    std::optional<Ask> ask() { return asked<Ask>(handle.get(), fazgrond_peer_ask); }
-
-    // Whether whoever is to come by this player's mark is welcome: all machines have to say the same.
-    Code answer(std::uint8_t player, bool is_welcome) { return Code(fazgrond_peer_answer(handle.get(), player, is_welcome)); }
 
     // Goes on in the next epoch if this one is over, in each turn after `poll` and before the session is given words. Gives each request
     // to `carry_out`; the jobs of this epoch are over then. The session is at the frame `frames` of the next one. The answer is nothing

@@ -14,6 +14,8 @@
 #include <stdlib.h>
 #include <string.h>
 
+#define COMERS 0x636f6d657273u
+
 enum { MACHINES = 4, LIAR = 3, HONEST = 3, TURN = 16, LATENCY = 2, SLOTS = 64, KEPT = 4096, UNDER_WAY = 4096, POOL = 256, CODES = 400 };
 enum { SMALL = 1 << 18 /* bytes that malloc may keep to itself */ };
 enum { MAP = 3, CARRIED = 4, LABEL = 4, FRAMES_OF_A_CASE = 3000, LIES_A_TURN = 24, DELAY = 2 };
@@ -60,7 +62,7 @@ typedef struct machine {
     bool is_closing;
     uint64_t settled; /* so many rows of the match */
     fazgrond_row rows[KEPT], shown[KEPT];
-    uint32_t given[KEPT], gave, wait, epochs;
+    uint32_t given[KEPT], gave, wait, epochs, refused; /* refused: how often it was told that the liar was */
     bool was_given[KEPT];
     datagram *line;
     size_t on_the_way;
@@ -95,6 +97,7 @@ static void open_machine(uint32_t me) {
     settings.local = 1u << me;
     settings.delays[me] = DELAY;
     match.draw = draw_of(me);
+    match.comers = COMERS;
     match.silent_after = 3000;
     for (uint32_t at = 0; at < FAZGROND_PLAYERS; at++) {
         match.owners[at] = epoch.owners[at] = at < MACHINES ? at : FAZGROND_NO_PLAYER;
@@ -197,17 +200,16 @@ static void hear_events(uint32_t me) {
         must(event.code != FAZGROND_LEFT || is_of_liar || !is_honest(me), "nobody who is honest is gone");
         must(event.code != FAZGROND_DESYNC || is_of_liar || !is_honest(me), "all who are honest have the same states");
         must(event.code != FAZGROND_REFUSED || is_of_liar || !is_honest(me), "nobody who is honest is refused");
+        all[me].refused += event.code == FAZGROND_REFUSED;
+        must(all[me].refused <= all[me].epochs + 1 || !is_honest(me), "the liar is told of once in an epoch");
         must(event.code != FAZGROND_DROPPED && event.code != FAZGROND_CUT_OFF, "nobody who is honest is cut off");
     }
 }
 
 static void go_on(uint32_t me) {
     machine *self = &all[me];
-    fazgrond_ask ask;
     uint32_t frames, has_news = 0;
     fazgrond_row row;
-    while (fazgrond_peer_ask(&self->peer, &ask) == FAZGROND_OK)
-        must(fazgrond_peer_answer(&self->peer, (uint8_t)ask.player, 0) == FAZGROND_OK, "who asks is refused");
     if (fazgrond_has_news(&self->session, &has_news) == FAZGROND_OK && has_news != 0)
         must(fazgrond_synchronize_input(&self->session, &row) == FAZGROND_OK, "news are played");
     carry_out(self);
@@ -220,7 +222,7 @@ static void go_on(uint32_t me) {
     carry_out(self);
     must(!self->is_closing, "an epoch ends with its state");
     for (uint32_t at = 0; at < MACHINES; at++) {
-        must(self->epoch.owners[at] == at || self->epoch.owners[at] == FAZGROND_NOBODY, "nobody comes who isn't welcome");
+        must(self->epoch.owners[at] == at || self->epoch.owners[at] == FAZGROND_NOBODY, "nobody comes without a ticket");
         must(self->epoch.owners[at] == FAZGROND_NOBODY || self->epoch.delays[at] == DELAY, "no delay is another's");
         must(is_honest(at) ? self->epoch.owners[at] == at : true, "an honest machine stays");
     }
@@ -298,7 +300,7 @@ static void tell(uint32_t to, uint8_t *bytes, size_t length) {
 }
 
 static size_t head(uint8_t *bytes, uint8_t kind) {
-    memcpy(bytes, "FZG3", 4);
+    memcpy(bytes, "FZG4", 4);
     bytes[PACKET_SENDER] = LIAR;
     bytes[PACKET_KIND] = kind;
     return PACKET_BODY;
@@ -370,6 +372,7 @@ static void tell_marks(uint32_t to) {
     memset(&made, 0, sizeof made);
     made.sender = LIAR;
     made.kind = PLAY;
+    made.number = turn;
     made.counted = (1 << MACHINES) - 1;
     for (uint32_t at = 0; at < MACHINES; at++)
         if (fazgrond_input_frame(&all[at].session, (uint8_t)(at + 1), &frame) == FAZGROND_OK)

@@ -36,8 +36,6 @@ static fazgrond_match match_of(uint32_t me) {
     fazgrond_match match = fazgrond_match_for(2, me);
     match.draw = 70 + me;
     match.digest = 8;
-    match.silent_after = 5000;
-    match.notify_after = 750;
     fazgrond_one_number(&match, 7);
     match.numbers[me] = 123; /* it isn't read */
     match.owners[0] = 0;

@@ -44,19 +44,20 @@ HAS(fazgrond_peer, 16);
 AT(fazgrond_peer, full, 0);
 AT(fazgrond_peer, at, 8);
 
-HAS(fazgrond_match, 152);
+HAS(fazgrond_match, 160);
 AT(fazgrond_match, size, 0);
 AT(fazgrond_match, numbers, 8);
 AT(fazgrond_match, draw, 72);
 AT(fazgrond_match, digest, 80);
-AT(fazgrond_match, me, 88);
-AT(fazgrond_match, machines, 92);
-AT(fazgrond_match, owners, 96);
-AT(fazgrond_match, silent_after, 128);
-AT(fazgrond_match, notify_after, 132);
-AT(fazgrond_match, stalled_after, 136);
-AT(fazgrond_match, words, 140);
-AT(fazgrond_match, held_turns, 144);
+AT(fazgrond_match, comers, 88);
+AT(fazgrond_match, me, 96);
+AT(fazgrond_match, machines, 100);
+AT(fazgrond_match, owners, 104);
+AT(fazgrond_match, silent_after, 136);
+AT(fazgrond_match, notify_after, 140);
+AT(fazgrond_match, stalled_after, 144);
+AT(fazgrond_match, words, 148);
+AT(fazgrond_match, held_turns, 152);
 
 HAS(fazgrond_event, 36);
 AT(fazgrond_event, code, 0);
@@ -96,11 +97,6 @@ AT(fazgrond_mark, threshold, 4);
 AT(fazgrond_mark, ticket, 8);
 AT(fazgrond_mark, comes, 16);
 AT(fazgrond_mark, delays, 48);
-
-HAS(fazgrond_ask, 48);
-AT(fazgrond_ask, ticket, 0);
-AT(fazgrond_ask, player, 8);
-AT(fazgrond_ask, comes, 12);
 
 HAS(fazgrond_line, 16);
 AT(fazgrond_line, full, 0);

@@ -13,6 +13,7 @@ enum { SLOTS = 257, FRAMES = 900, ENDED = 200, BEGUN_AGAIN = 320, UNDER_WAY = 25
 /* The number of the two machines, which nobody else knows, and 64 bits of a digest of all that has to be alike. */
 #define NUMBER 0x5eed5eed5eed5eed
 #define DIGEST 0x600d
+#define COMERS 0xc0ffee
 
 typedef struct datagram {
     uint32_t due;
@@ -130,7 +131,7 @@ static void open_both(program *self, const fazgrond_epoch *epoch, uint32_t machi
     settings.threshold = epoch->threshold;
     match.draw = new_draw();
     match.digest = DIGEST;
-    match.silent_after = 5000;
+    match.comers = COMERS;
     fazgrond_one_number(&match, NUMBER);
     must(fazgrond_open(&self->session, &settings));
     must(fazgrond_peer_open_lasting(&self->peer, &self->session, &match, epoch));
@@ -141,7 +142,8 @@ static void open_both(program *self, const fazgrond_epoch *epoch, uint32_t machi
     self->is_coming = false;
     self->hosting = (faz_hosting){ .session = &self->session, .peer = &self->peer, .me = machine, .digest = DIGEST,
                                    .random = new_draw(), .send = post };
-    self->hosting.seat[other] = (faz_seat){ .is_taken = true, .number = NUMBER, .ticket = 1 + other, .players = 1u << other };
+    self->hosting.seat[other] = (faz_seat){ .is_taken = true, .number = NUMBER, .ticket = fazgrond_ticket(COMERS, other),
+                                            .players = 1u << other };
     must(faz_hosting_begin(&self->hosting, bytes_of(&self->now), sizeof self->now));
 }
 
@@ -231,7 +233,6 @@ static void take_turn(program *self, uint32_t now) {
     must(fazgrond_peer_is_running(&self->peer, &is_running));
     hear_events(self, is_running != 0);
     if (is_running != 0) {
-        faz_hosting_answer(&self->hosting);
         play_what_came(self); /* fazgrond_synchronize_input, if fazgrond_has_news and nobody has left in this turn */
         if (fazgrond_peer_go_on(&self->peer, &self->session, &frames) == FAZGROND_OK)
             go_on(self); /* carries out the requests, and calls faz_hosting_begin with the state at the epoch's base */

@@ -71,8 +71,6 @@ static void open_machine(machine *self, uint32_t me) {
     match.owners[0] = 0; /* machine 0 has player 1 */
     match.owners[1] = 1;
     match.draw = draw_of(me);
-    match.silent_after = 5000;
-    match.notify_after = 750;
     fazgrond_one_number(&match, 0x5eed5eed5eed5eed);
     must(fazgrond_open(&self->session, &settings));
     must(fazgrond_peer_open(&self->peer, &self->session, &match));

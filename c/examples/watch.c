@@ -97,7 +97,6 @@ static void open_machine(uint32_t me) {
     match.owners[0] = 0; /* machine 0 has player 1 */
     match.owners[1] = 1;
     match.draw = new_draw();
-    match.silent_after = 5000;
     fazgrond_one_number(&match, 0x5eed5eed5eed5eed);
     must(fazgrond_open(&sessions[me], &settings));
     must(fazgrond_peer_open(&peers[me], &sessions[me], &match));

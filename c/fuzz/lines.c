@@ -184,7 +184,7 @@ static void make_up(input *in, packet *made, bool is_viewer) {
     memset(made->bytes, 0, sizeof made->bytes);
     for (size_t at = 0; at < made->length; at++)
         made->bytes[at] = (uint8_t)take_byte(in);
-    memcpy(made->bytes, "FZG3", 4);
+    memcpy(made->bytes, "FZG4", 4);
     made->bytes[SENDER] = is_viewer ? VIEWER : 0;
     made->bytes[KIND] %= made->bytes[KIND] < 240 ? 3 : 9;
 }

@@ -307,6 +307,9 @@ void ggponet_send_bye(GGPOSession *session, int to, const uint8_t *bytes, size_t
 /* ---- rejoin.c */
 
 GGPOErrorCode ggponet_open_seats(GGPOSession *session);
+
+/* By which number whoever comes into this match has a ticket (fazgrond_ticket). */
+uint64_t ggponet_comers(const GGPOSession *session);
 /* This machine comes into a match that runs. */
 void ggponet_begin_to_come(GGPOSession *session);
 void ggponet_close_seats(GGPOSession *session);

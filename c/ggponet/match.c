@@ -84,6 +84,7 @@ static fazgrond_match the_match(const GGPOSession *session) {
     for (int at = 0; at < FAZGROND_MACHINES; at++)
         match.numbers[at] = session->machine[at].pair.is_said ? session->machine[at].pair.number : session->number;
     match.digest = session->digest;
+    match.comers = ggponet_comers(session);
     match.silent_after = session->silent_after;
     match.notify_after = session->notify_after;
     return match;

@@ -57,6 +57,8 @@ static uint64_t line_number(const GGPOSession *session, int one, int other) {
     return ggponet_hash_bytes(session->number ^ 0x72656a6f696e, places, sizeof places) | 1;
 }
 
+uint64_t ggponet_comers(const GGPOSession *session) { return ggponet_hash_bytes(session->number, "comers", 6) | 1; }
+
 static void send_by(void *of, uint32_t to, const uint8_t *bytes, size_t length) { ggponet_send_to(of, (int)to, bytes, length); }
 
 /* The players of a machine, by its place: a bit for each word of their inputs. */
@@ -85,8 +87,8 @@ GGPOErrorCode ggponet_open_seats(GGPOSession *session) {
             continue;
         comer->machines |= 1u << at;
         comer->numbers[at] = line_number(session, session->place, at);
-        hosting->seat[at] = (faz_seat){ .is_taken = true, .number = comer->numbers[at], .ticket = 1 + (uint64_t)at,
-                                        .players = players_at(session, at) };
+        hosting->seat[at] = (faz_seat){ .is_taken = true, .number = comer->numbers[at], .players = players_at(session, at),
+                                        .ticket = fazgrond_ticket(ggponet_comers(session), (uint32_t)at) };
     }
     comer->players = players_at(session, session->place);
     comer->limit = UINT32_MAX;
@@ -147,7 +149,6 @@ static void remember_rows(GGPOSession *session) {
 static GGPOErrorCode end_epoch(GGPOSession *session, int32_t *answer) {
     uint32_t frames = 0;
     *answer = FAZGROND_NOTHING;
-    faz_hosting_answer(&session->hosting);
     remember_rows(session);
     if (session->is_fewer)
         *answer = fazgrond_peer_go_on(&session->peer, &session->rollback, &frames);

@@ -273,14 +273,18 @@ void faz_lobby_turn(faz_lobby *self, uint32_t now) {
 
 /* ---- the match */
 
-/* What is the same at all, and another number for each who comes. */
+/* What is the same at all machines of the match, and nobody else knows: of these bytes another number than of others. */
+static uint64_t number_of(const table *from, const void *bytes, size_t length) {
+    uint64_t hash[2];
+    crypto_generichash((uint8_t *)hash, sizeof hash, bytes, length, from->key, KEY);
+    return hash[0] | 1;
+}
+
+static uint64_t comers_of(const table *from) { return number_of(from, "comers", 6); }
+
+/* Another one for each who comes. */
 static uint64_t ticket_of(const table *from, uint32_t machine) {
-    uint8_t hash[16], number[8];
-    uint64_t ticket;
-    crypto_generichash(hash, sizeof hash, from->member[machine].open, KEY, from->key, KEY);
-    memcpy(number, hash, sizeof number);
-    memcpy(&ticket, number, sizeof ticket);
-    return ticket | 1;
+    return fazgrond_ticket(comers_of(from), (uint32_t)number_of(from, from->member[machine].open, KEY));
 }
 
 bool faz_lobby_get_match(const faz_lobby *self, faz_lobby_match *match) {
@@ -292,6 +296,7 @@ bool faz_lobby_get_match(const faz_lobby *self, faz_lobby_match *match) {
     match->players = self->table.players;
     memcpy(match->owners, self->table.owners, sizeof match->owners);
     match->number = self->table.number;
+    match->comers = comers_of(&self->table);
     match->digest = self->digest;
     match->is_late = self->table.is_late;
     if (self->table.lasts)
@@ -312,6 +317,7 @@ bool faz_lobby_get_peer(const faz_lobby *self, fazgrond_match *match) {
         return false;
     *match = fazgrond_match_for(self->table.machines, self->table.me);
     match->digest = self->digest;
+    match->comers = comers_of(&self->table);
     match->silent_after = SILENT_AFTER;
     for (uint32_t at = 0; at < self->table.machines; at++)
         match->numbers[at] = self->other[at].line != NULL ? faz_line_number(self->other[at].line) : 0;

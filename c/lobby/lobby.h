@@ -119,8 +119,9 @@ typedef struct faz_lobby_match {
     uint32_t vacant;                     /* a bit for each machine that nobody has yet: it gets one when somebody comes */
     uint64_t numbers[FAZGROND_MACHINES]; /* with each machine a number that only these two know */
     uint64_t number;                     /* one that all machines of the match know, and nobody else */
-    uint64_t tickets[FAZGROND_MACHINES]; /* of each machine another number, the same at all, and another one for who comes in its
-                                          * place: that of a seat of c/rejoin */
+    uint64_t comers;                     /* another such one: that of settings of a peer */
+    uint64_t tickets[FAZGROND_MACHINES]; /* of each machine another one, by fazgrond_ticket, the same at all, and another one for who
+                                          * comes in its place: that of a seat of c/rejoin */
     bool is_late;                        /* this machine has come into a match that runs already */
     char code[FAZ_LOBBY_CODE_ROOM];      /* by which whoever stops comes back, if the match `lasts`; else empty */
     uint64_t digest;
@@ -164,7 +165,7 @@ bool faz_lobby_begin(faz_lobby *lobby);
 /* The match, from FAZ_LOBBY_CONNECTING on. False: it isn't known yet. */
 bool faz_lobby_get_match(const faz_lobby *lobby, faz_lobby_match *match);
 
-/* The same as settings of a peer: `me`, `machines`, owners, numbers and digest, and silent_after 10,000. `draw` is for you to
+/* The same as settings of a peer: `me`, `machines`, owners, numbers, digest and comers, and silent_after 10,000. `draw` is for you to
  * set. Players of a vacant machine are nobody's (FAZGROND_NOBODY), which fazgrond_peer_open_lasting takes. */
 bool faz_lobby_get_peer(const faz_lobby *lobby, fazgrond_match *match);
 

@@ -131,23 +131,6 @@ void faz_hosting_hear(faz_hosting *self, uint32_t to, const uint8_t *bytes, size
         hear_of_line(self, to, bytes, length, now);
 }
 
-/* Whether somebody sits somewhere with this ticket, and is to own these players. */
-static bool is_welcome(const faz_hosting *self, const fazgrond_ask *ask) {
-    uint32_t players = 0;
-    for (int player = 0; player < FAZGROND_PLAYERS; player++)
-        players |= ask->comes[player] != 0 ? 1u << player : 0;
-    for (int at = 0; at < FAZ_SEATS; at++)
-        if (self->seat[at].is_taken && players != 0 && self->seat[at].ticket == ask->ticket && self->seat[at].players == players)
-            return true;
-    return false;
-}
-
-void faz_hosting_answer(faz_hosting *self) {
-    fazgrond_ask ask;
-    while (fazgrond_peer_ask(self->peer, &ask) == FAZGROND_OK)
-        (void)fazgrond_peer_answer(self->peer, (uint8_t)ask.player, is_welcome(self, &ask));
-}
-
 /* Whose players a seat's are in this epoch, if they are of another machine that is there. They are of one that is gone if whoever sat
  * there was begun anew. */
 static uint32_t owner_of(const faz_hosting *self, const faz_seat *seat) {

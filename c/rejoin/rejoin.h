@@ -34,7 +34,7 @@ enum { FAZ_TABLE_BYTES = 72, FAZ_SEATS = 40 };
 typedef struct faz_seat {
     bool is_taken;   /* there is such a seat */
     uint64_t number; /* that of the line */
-    uint64_t ticket; /* that of whoever sits there: the same at all machines of the match */
+    uint64_t ticket; /* of whoever sits there: by fazgrond_ticket, of the match's `comers` and a name of your choice */
     uint32_t players; /* a bit for each player that is to be its own; 0: it watches */
 
     fazgrond_line line, before; /* of this epoch, and of the one before */
@@ -65,14 +65,12 @@ int32_t faz_hosting_begin(faz_hosting *self, const uint8_t *state, size_t length
 /* A datagram came from a seat's address. */
 void faz_hosting_hear(faz_hosting *self, uint32_t seat, const uint8_t *bytes, size_t length, uint32_t now);
 
-/* Once a turn while the match runs, after fazgrond_peer_poll, and before fazgrond_peer_go_on. Whoever asks to come is answered. Before
- * fazgrond_peer_go_on call fazgrond_synchronize_input too if fazgrond_has_news: else who follows isn't told the last rows of the epoch.
+/* Once a turn while the match runs, after fazgrond_peer_go_on, and before the game gives its own words. Whoever was begun anew is regarded
+ * as gone, who has come up to this machine is proposed, and all are told what they lack.
+ *
+ * Before fazgrond_peer_go_on call fazgrond_synchronize_input if fazgrond_has_news: else who follows isn't told the last rows of the epoch.
  * But in a turn in which FAZGROND_LEFT or FAZGROND_DISCONNECTED came call fazgrond_peer_go_on first: rows past the end are known then, and
  * once they were played the epoch can't end any more. */
-void faz_hosting_answer(faz_hosting *self);
-
-/* Once a turn while the match runs, before the game gives its own words. Whoever was begun anew is regarded as gone, who has come up to this
- * machine is proposed, and all are told what they lack. */
 void faz_hosting_turn(faz_hosting *self, uint32_t now);
 
 /* Says to all who follow this machine that it leaves. A datagram may be lost: call it a few times. */

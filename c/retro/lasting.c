@@ -14,8 +14,7 @@
 enum {
     SPARE = 65536, /* so many bytes more than here a state may have */
     SILENT = 500, TELL_EVERY = 1000, OVER_A_SEAM = 2000, /* milliseconds */
-    APART = 60, /* frames from a seam to one that this machine asks for: who watches has come over the first one by then */
-    TICKETS = 1
+    APART = 60 /* frames from a seam to one that this machine asks for: who watches has come over the first one by then */
 };
 
 static uint32_t place_at(const match *self, const address *from) {
@@ -39,6 +38,11 @@ static uint32_t seat_at(const match *self, const address *from) {
 /* The number of the line between two machines. */
 static uint64_t line_number(const match *self, uint32_t one, uint32_t other) {
     uint64_t all[] = { self->meeting->all.numbers[0], one < other ? one : other, one < other ? other : one };
+    return strong_digest_of(all, sizeof all) | 1;
+}
+
+uint64_t lasting_comers(const match *self) {
+    uint64_t all[] = { self->meeting->all.numbers[0], 0x636f6d657273 };
     return strong_digest_of(all, sizeof all) | 1;
 }
 
@@ -104,7 +108,7 @@ int32_t lasting_open_peer(match *self, const fazgrond_match *match, const fazgro
                                  .random = net_draw(), .send = send_by, .of = self };
     for (uint32_t place = 0; place < all->machines; place++)
         it->hosting.seat[place] = (faz_seat){ .is_taken = place != all->me, .number = line_number(self, all->me, place),
-                                              .ticket = TICKETS + place, .players = players_of(all, place) };
+                                              .ticket = fazgrond_ticket(match->comers, place), .players = players_of(all, place) };
     for (uint32_t viewer = 0; viewer < self->open_lines; viewer++)
         lasting_seat_viewer(self, viewer);
     return fazgrond_peer_open_lasting(&self->peer, &self->session, match, &it->epoch);
@@ -210,7 +214,6 @@ static void settle_trail(match *self) {
 void lasting_turn(match *self, uint32_t now) {
     uint32_t frames = 0;
     settle_trail(self);
-    faz_hosting_answer(&self->lasting.hosting);
     int32_t code = fazgrond_peer_go_on(&self->peer, &self->session, &frames);
     if (code == FAZGROND_OK)
         begin_epoch(self, frames);

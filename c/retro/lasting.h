@@ -38,6 +38,9 @@ void lasting_begin(struct match *self);
 /* The others regard this machine as gone: it comes in again. */
 void lasting_return(struct match *self);
 
+/* By which number whoever comes has a ticket (fazgrond_ticket): one that all machines of the match know. */
+uint64_t lasting_comers(const struct match *self);
+
 /* Opens the peer beside an open session. */
 int32_t lasting_open_peer(struct match *self, const fazgrond_match *match, const fazgrond_settings *settings);
 

@@ -127,12 +127,13 @@ bool match_open(match *self, uint32_t me) {
     seat_players(self, &settings);
     memcpy(match.owners, all->owners, sizeof match.owners);
     memcpy(match.numbers, all->numbers, sizeof match.numbers);
-    if (self->wish->lasts)
+    if (self->wish->lasts) {
         fazgrond_one_number(&match, all->numbers[0]);
+        match.comers = lasting_comers(self);
+    }
     match.draw = net_draw();
     match.digest = all->digest;
     match.silent_after = self->wish->silent_after;
-    match.notify_after = 750;
     match.held_turns = self->wish->hold;
     match_must(self, fazgrond_open(&self->session, &settings));
     match_must(self, fazgrond_limit_slots(&self->session, SLOTS));
@@ -502,8 +503,7 @@ static void play_on(match *self) {
         play(self);
 }
 
-/* A turn of a match that lasts. What is settled is asked before it is played, so that no row past the end of an epoch counts.
- * What happened is heard before that ends, as it is forgotten then. */
+/* A turn of a match that lasts. What is settled is asked before it is played, so that no row past the end of an epoch counts. */
 static void play_lasting(match *self, uint32_t now) {
     hear_events(self);
     if (!self->lasting.is_coming && lasting_is_out(self))

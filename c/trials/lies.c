@@ -269,7 +269,7 @@ static void no_clocks_heard(world *self, packet *made, uint32_t to) {
 
 static void last_number(world *self, packet *made, uint32_t to) {
     (void)self, (void)to;
-    made->clocks.number = UINT32_MAX;
+    made->number = UINT32_MAX;
 }
 
 static void held_for_ever(world *self, packet *made, uint32_t to) {

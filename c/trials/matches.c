@@ -205,6 +205,24 @@ static void stalled(uint32_t machines, uint32_t which, uint32_t stalled_after, u
     world_end(self);
 }
 
+/* Two of three don't hear each other at first, so that neither begins. The third one has, and waits for them: nobody is put out. */
+static void kept_from_beginning(uint32_t stalled_after, uint32_t seed) {
+    setup with = plain;
+    with.machines = 3;
+    with.stalled_after = stalled_after;
+    with.seed = seed;
+    trial_case("two of three are kept from beginning, out after %u, seed %u", (unsigned)stalled_after, (unsigned)seed);
+    world *self = world_begin(&with);
+    self->is_cut[0][2] = self->is_cut[2][0] = true;
+    world_open_all(self);
+    world_run(self, 8000);
+    trial_must(world_told(self, 1, FAZGROND_RUNNING, NOBODY) == 1, "the third one begins");
+    self->is_cut[0][2] = self->is_cut[2][0] = false;
+    trial_must(world_play(self, 60, 10000), "and the others, once they hear each other");
+    trial_nothing_but(self, MAY_STALL | MAY_MISS);
+    world_end(self);
+}
+
 static void slow(uint32_t machines, uint32_t which, uint32_t every, uint32_t stalled_after, uint32_t seed) {
     trial_case("one of %u gives a word in %u turns, stalled after %u, seed %u", (unsigned)machines, (unsigned)every,
                (unsigned)stalled_after, (unsigned)seed);
@@ -218,6 +236,8 @@ static void slow(uint32_t machines, uint32_t which, uint32_t every, uint32_t sta
 }
 
 void trial_stalls(uint32_t count, uint32_t seed) {
+    kept_from_beginning(2500, seed);
+    kept_from_beginning(0, seed + 1);
     for (uint32_t time = 0; time < count; time++)
         for (uint32_t machines = 2; machines <= 4; machines++) {
             uint32_t which = (seed + time) % machines;

@@ -52,7 +52,6 @@ static void put_hello(writer *out, const packet *made) {
 }
 
 static void put_clocks(writer *out, const packet_clocks *clocks) {
-    put_short(out, clocks->number);
     put_short(out, clocks->frame);
     put_short(out, clocks->heard_frame);
     put_short(out, clocks->clock);
@@ -61,6 +60,7 @@ static void put_clocks(writer *out, const packet_clocks *clocks) {
 }
 
 static void put_play(writer *out, const packet *made) {
+    put_short(out, made->number);
     put(out, made->has_clocks);
     if (made->has_clocks)
         put_clocks(out, &made->clocks);
@@ -86,7 +86,7 @@ static void put_play(writer *out, const packet *made) {
 
 size_t packet_write(const packet *made, uint8_t *out) {
     writer to = { out, 0 };
-    put_fixed(&to, 0x465a4733, 4);
+    put_fixed(&to, 0x465a4734, 4);
     put_fixed(&to, 0, 8);
     put(&to, made->sender);
     put(&to, made->kind);
@@ -154,7 +154,6 @@ static void take_hello(reader *in, packet *read) {
 }
 
 static void take_clocks(reader *in, packet_clocks *clocks) {
-    clocks->number = take_short(in);
     clocks->frame = take_short(in);
     clocks->heard_frame = take_short(in);
     clocks->clock = take_short(in);
@@ -163,6 +162,7 @@ static void take_clocks(reader *in, packet_clocks *clocks) {
 }
 
 static void take_play(reader *in, packet *read) {
+    read->number = take_short(in);
     read->has_clocks = take(in) != 0;
     if (read->has_clocks)
         take_clocks(in, &read->clocks);

@@ -13,7 +13,7 @@ enum { PACKET_TAG = 4, PACKET_SENDER = 12, PACKET_KIND = 13, PACKET_BODY = 14, P
 enum { HELLO = 0, PLAY = 1, BYE = 2 };
 
 typedef struct packet_clocks {
-    uint32_t number, frame, heard_frame, clock, heard_clock, held;
+    uint32_t frame, heard_frame, clock, heard_clock, held;
 } packet_clocks;
 
 typedef struct packet {
@@ -23,6 +23,7 @@ typedef struct packet {
     uint64_t digest, draw, echo;
     uint32_t patience;
     /* a play */
+    uint32_t number;
     bool has_clocks, has_settled;
     packet_clocks clocks;
     uint8_t gone, counted, offered, marks; /* masks, and the byte of marks */

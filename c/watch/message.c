@@ -5,7 +5,7 @@
 #include <stdio.h>
 #include <string.h>
 
-enum { HEAD = 14, KIND = 13, VERSION = 3, SUM = 16, FIRST = 4, HEAD_FIELDS = 20 + 4 * FAZGROND_PLAYERS, HELLO = 53 };
+enum { LETTERS = 3, HEAD = 14, KIND = 13, VERSION = 4, SUM = 16, FIRST = 4, HEAD_FIELDS = 20 + 4 * FAZGROND_PLAYERS, HELLO = 53 };
 
 /* The draws of the two ends of a run's line. They are always the same, since a run is read by whoever gets it, whenever. */
 enum { HOST_DRAW = 1, VIEWER_DRAW = 2 };
@@ -42,9 +42,12 @@ void faz_id(char *out, const char *match, faz_kind kind, uint32_t frame) {
     snprintf(out, FAZ_SUBJECT, "%s.%c%u", match, letter, (unsigned)frame);
 }
 
+/* What a packet begins with; the digit behind it is the version of packets. */
+static const char MARK[] = "FZG4";
+
 /* A run begins with its first frame, which is less than these letters are as a number. */
 faz_kind faz_kind_of(const uint8_t *bytes, size_t length) {
-    return length > KIND && memcmp(bytes, "FZG3", 4) == 0 ? (faz_kind)bytes[KIND] : FAZ_ROWS;
+    return length > KIND && memcmp(bytes, MARK, LETTERS) == 0 ? (faz_kind)bytes[KIND] : FAZ_ROWS;
 }
 
 /* Numbers: the highest byte first. */
@@ -71,14 +74,15 @@ uint32_t faz_frame_of(const uint8_t *bytes, size_t length) {
 
 /* The first bytes of a packet, without its tag; the sender is 0. */
 static void begin(uint8_t *out, faz_kind kind) {
-    memcpy(out, "FZG3", 4);
+    memcpy(out, MARK, 4);
     memset(out + 4, 0, HEAD - 4);
     out[KIND] = (uint8_t)kind;
 }
 
-/* Whether this is a packet of such a kind, with so many bytes behind the first ones at least. */
+/* Whether this is a packet of such a kind, with so many bytes behind the first ones at least. It may be of an older version, which the
+ * header says. */
 static bool is_packet(const uint8_t *bytes, size_t length, faz_kind kind, size_t least, uint64_t number) {
-    return length >= HEAD + least && memcmp(bytes, "FZG3", 4) == 0 && bytes[12] == 0 && bytes[KIND] == kind
+    return length >= HEAD + least && memcmp(bytes, MARK, LETTERS) == 0 && bytes[12] == 0 && bytes[KIND] == kind
         && is_sealed(bytes, length, key_of(number));
 }
 
@@ -169,6 +173,7 @@ size_t faz_write_rows(uint8_t *out, uint64_t number, uint32_t first, const fazgr
     }
     put(out, first, FIRST);
     begin(packet, FAZ_ROWS);
+    packet[length++] = 1; /* a hello came before it */
     packet[length++] = 0; /* no clocks */
     packet[length++] = 0; /* no machine is gone */
     packet[length++] = mask;

@@ -35,8 +35,8 @@ static bool is_same(const fazgrond_row *one, const fazgrond_row *other) {
 /* The words of docs/WIRE.md's first example, as it writes them, of one player. */
 static void bytes_of_rows(void) {
     static const uint32_t words[] = { 0, 0, 5, 5, 5, 7 };
-    static const uint8_t wanted[] = { 0, 0, 0, 15, 'F', 'Z', 'G', '3', 0, 0, 0, 0, 0, 0, 0, 0, 0, 1, /* the first frame; a play */
-                                      0, 0, 1, 6, 0, 1, 0, 6, 0,                                    /* counts, offers, no marks */
+    static const uint8_t wanted[] = { 0, 0, 0, 15, 'F', 'Z', 'G', '4', 0, 0, 0, 0, 0, 0, 0, 0, 0, 1, /* the first frame; a play */
+                                      1, 0, 0, 1, 6, 0, 1, 0, 6, 0,                        /* its number, counts, offers, no marks */
                                       2, 5, 2, 7 };
     fazgrond_row rows[6] = { 0 };
     for (uint32_t at = 0; at < 6; at++)
@@ -224,11 +224,12 @@ static void versions(void) {
     faz_timeline *seen = faz_timeline_open(&duel_game, "cup");
     uint64_t number = faz_number("cup");
     size_t length = faz_write_head(bytes, number, &the_head);
-    MUST(faz_other_version(bytes, length, number) == 0 && bytes[14] == 0 && bytes[15] == 3);
-    bytes[15] = 2;
+    MUST(faz_other_version(bytes, length, number) == 0 && bytes[14] == 0 && bytes[15] == 4);
+    bytes[3] = '3'; /* that of packets too */
+    bytes[15] = 3;
     MUST(take(seen, length) == FAZ_MALFORMED && faz_timeline_version(seen) == 0); /* the seal is another one */
     seal(bytes, length, (seal_key){ number, 0, 0 });
-    MUST(take(seen, length) == FAZ_MALFORMED && faz_timeline_version(seen) == 2 && faz_timeline_head(seen) == NULL);
+    MUST(take(seen, length) == FAZ_MALFORMED && faz_timeline_version(seen) == 3 && faz_timeline_head(seen) == NULL);
     MUST(take(seen, faz_write_head(bytes, number, &the_head)) == FAZ_NEW && faz_timeline_version(seen) == 0);
     faz_timeline_close(seen);
 }

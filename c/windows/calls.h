@@ -65,6 +65,7 @@ CALL(int32_t, fazgrond_peer_hand_over_due, (fazgrond_peer *peer, fazgrond_sessio
      (peer, session, handed))
 CALL(int32_t, fazgrond_peer_is_pressed, (fazgrond_peer *peer, fazgrond_session *session, uint32_t *flag),
      (peer, session, flag))
+CALL(uint64_t, fazgrond_ticket, (uint64_t comers, uint32_t name), (comers, name))
 CALL(int32_t, fazgrond_peer_open_lasting,
      (fazgrond_peer *peer, fazgrond_session *session, const fazgrond_match *match, const fazgrond_epoch *epoch),
      (peer, session, match, epoch))
@@ -73,8 +74,6 @@ CALL(int32_t, fazgrond_peer_has_stayed, (fazgrond_peer *peer, uint8_t machine, u
 CALL(int32_t, fazgrond_peer_mark,
      (fazgrond_peer *peer, fazgrond_session *session, uint8_t player, const fazgrond_mark *mark),
      (peer, session, player, mark))
-CALL(int32_t, fazgrond_peer_ask, (fazgrond_peer *peer, fazgrond_ask *ask), (peer, ask))
-CALL(int32_t, fazgrond_peer_answer, (fazgrond_peer *peer, uint8_t player, uint32_t is_welcome), (peer, player, is_welcome))
 CALL(int32_t, fazgrond_peer_go_on, (fazgrond_peer *peer, fazgrond_session *session, uint32_t *frames), (peer, session, frames))
 CALL(int32_t, fazgrond_peer_send_before,
      (fazgrond_peer *peer, uint8_t machine, uint32_t now, uint8_t *out, size_t room, size_t *length),

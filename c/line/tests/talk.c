@@ -183,7 +183,7 @@ static void send_due(talk *self, uint64_t now, bool has_ended) {
         if (faz_line_send(self->line, bytes, (size_t)self->size))
             self->sent++;
         if (self->lies) {
-            memcpy(bytes, "FZG3", 4);
+            memcpy(bytes, "FZG4", 4);
             bytes[12] = (uint8_t)((self->me + 1) % 8 == self->other ? (self->me + 2) % 8 : (self->me + 1) % 8);
             faz_line_send(self->line, bytes, 53);
         }

@@ -155,7 +155,8 @@ static void say_result(void) {
     printf("match me %u machines %u players %u owners", match->me, match->machines, match->players);
     for (uint32_t player = 0; player < match->players; player++)
         printf(" %u", match->owners[player]);
-    printf(" number %016" PRIx64 " common [%.*s] names", match->number, (int)match->common_length, (const char *)match->common);
+    printf(" number %016" PRIx64 " comers %016" PRIx64 " common [%.*s] names", match->number, match->comers, (int)match->common_length,
+           (const char *)match->common);
     for (uint32_t at = 0; at < match->machines; at++)
         printf(" [%s] %016" PRIx64, match->names[at], match->tickets[at]);
     printf("\nlate %d vacant %" PRIx32 ", back by [%s]\n", match->is_late, match->vacant, match->code);
