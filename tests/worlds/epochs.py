@@ -6,7 +6,7 @@ row. A mark goes wherever its word goes.
 
 The first settled row that has a word with a mark ends the epoch; of several in it, that of the lowest player counts. The *end* is the
 frame after that row. A mark is void, as if it weren't there, if its threshold or a delay is out of range, if it changes the delay of a
-player that its giver doesn't own, or if its newcomer is to own no player or isn't who it says.
+player that its giver doesn't own, or if its newcomer is to own no player or has a wrong ticket.
 
 A machine closes the epoch once it knows all words before the end and has played up to it. At once it opens the next one:
 
@@ -31,7 +31,7 @@ from rules import holds
 
 MEMBERS = 8
 THRESHOLDS, DELAYS = range(16), range(9)
-FORGERS = 1000      # machines from this number on aren't who they say
+FORGERS = 1000      # newcomers from this number on have a wrong ticket
 
 
 class Mark(NamedTuple):

@@ -317,7 +317,7 @@ class MarkScene(Scene):
         self.wait()
 
     def void_mark(self, one):
-        """One by which nothing can be otherwise: a threshold or delay that is too great, another's delay, or somebody who isn't welcome."""
+        """One by which nothing can be otherwise: a threshold or delay that is too great, another's delay, or a wrong ticket."""
         others = [p for p, owner in enumerate(self.owned) if owner != one]
         another = Mark(None, (), ((self.draw.choice(others), 1),), 0)
         return self.draw.choice([Mark(None, (), (), 16), Mark(None, (), ((self.own(one)[0], 9),), 0), another, Mark(FORGERS, (7,), (), 0)])

@@ -14,9 +14,11 @@
 
 enum { MACHINES = FAZGROND_MACHINES, PLAYERS = FAZGROND_PLAYERS, BYES = 3, WORDS = 16, REQUESTS = 16, MARKS = 1024 };
 
-/* Whoever has a ticket from FORGERS on is refused. A newcomer that was proposed, and hasn't come in so many turns, is proposed anew.
- * In this many turns before the end it is noted how far each machine is. */
+/* Whoever has a number from FORGERS on has a ticket of other comers. A newcomer that was proposed, and hasn't come in so many turns, is
+ * proposed anew. In this many turns before the end it is noted how far each machine is. */
 enum { NOBODY = 255, FORGERS = 1000, PROPOSED_ANEW = 60, LAST_TURNS = 100 };
+
+static const uint64_t COMERS = 0x636f6d657273;
 
 /* What becomes of the k-th datagram of a line, if it doesn't come in the next turn: it comes so many times, so many turns later. */
 typedef struct fate {
@@ -259,6 +261,7 @@ static fazgrond_match match_of(const world *self, const fazgrond_epoch *epoch, u
     fazgrond_one_number(&match, 0x776f726c64);
     memcpy(match.owners, epoch->owners, sizeof match.owners);
     match.draw = draw;
+    match.comers = COMERS;
     match.silent_after = self->silent_after;
     match.stalled_after = self->stalled_after;
     return match;
@@ -492,13 +495,11 @@ static void go_on(world *self, machine *at) {
         fail("an epoch doesn't begin");
 }
 
-static void answer_all(machine *at) {
-    fazgrond_ask ask;
-    while (fazgrond_peer_ask(&at->peer, &ask) == FAZGROND_OK)
-        fazgrond_peer_answer(&at->peer, (uint8_t)ask.player, ask.ticket < FORGERS);
-}
-
 /* ---- Marks. */
+
+static uint64_t ticket_of(uint64_t newcomer) {
+    return fazgrond_ticket(newcomer < FORGERS ? COMERS : COMERS + 1, (uint32_t)newcomer);
+}
 
 static bool is_void(const machine *at, const wish *it) {
     for (uint32_t player = 0; player < PLAYERS; player++) {
@@ -575,7 +576,7 @@ static void propose_anew(world *self, uint32_t who) {
     for (uint32_t newcomer = 0; newcomer < MACHINES; newcomer++)
         if (is_awaited(self, who, newcomer)) {
             wish anew = { true, newcomer, fazgrond_mark_for() };
-            anew.mark.ticket = newcomer;
+            anew.mark.ticket = ticket_of(newcomer);
             anew.mark.comes[self->guests[newcomer].players[who]] = 1;
             put_mark(self, &self->machine[who], &anew);
         }
@@ -685,7 +686,6 @@ static void open_newcomers(world *self) {
 static void go_on_lasting(world *self, uint32_t who) {
     machine *at = &self->machine[who];
     note_rows(self, at);
-    answer_all(at);
     go_on(self, at);
     if (at->is_over)
         return;
@@ -753,7 +753,7 @@ static void wish_mark(world *self, const uint64_t *numbers) {
     uint32_t players = (uint32_t)numbers[3];
     *made = (wish){ numbers[1] == NOBODY || players > 0, (uint32_t)numbers[1], fazgrond_mark_for() };
     made->mark.threshold = (uint32_t)numbers[2];
-    made->mark.ticket = players > 0 ? numbers[1] : 0;
+    made->mark.ticket = players > 0 ? ticket_of(numbers[1]) : 0;
     for (uint32_t one = 0; one < players; one++)
         made->mark.comes[numbers[4 + one] % PLAYERS] = 1;
 }
