@@ -15,7 +15,7 @@ use std::process::ExitCode;
 use std::rt::Runtime;
 
 /// How many turns later than the first side the second one starts, in the second match.
-const LATE: u32 = 8;
+const LATE: u32 = 24;
 
 fn main(rt: HostRuntime) -> ExitCode {
     match (run(&rt, 0), run(&rt, LATE)) {
