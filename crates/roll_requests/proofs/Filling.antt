@@ -250,3 +250,10 @@ needed_now states jobs limit count held now slots exact least many filled k =
     filled k
     ∙ ap (λ b. b || is_among slots k) (exact k)
     ∙ ap (λ (l : List ℕ). is_needed states jobs k || is_among l k) (least ∙ ap (least_free (is_needed states jobs) limit) many)
+
+-- one more that isn't taken is none the more
+pub one_free : (taken : List Bool) (k : ℕ) → is_taken (taken ++ false ∷ []) k ≡ is_taken taken k
+one_free [] zero = refl
+one_free [] (suc k) = refl
+one_free (x ∷ xs) zero = refl
+one_free (x ∷ xs) (suc k) = one_free xs k

@@ -34,10 +34,9 @@ use Rattle.roll_session.proofs.Rolling.{all_held, held_same, some_is, whole}
 use Rattle.roll_tree.specs.SavedStates.{Saved, state_named}
 use Rattle.roll_requests.specs.Asked.{Asked, HasJob, IsHandedIn, Leads, SameTaken}
 use Rattle.roll_requests.specs.Carried.{Elsewhere, carried_all, carried_out, first}
-use Rattle.roll_requests.specs.Planned.{IsRoom}
+use Rattle.roll_requests.specs.Planned.{IsRoom, Room}
 use Rattle.roll_requests.specs.Requests.{last_or, roll_requests}
 use Rattle.roll_requests.specs.Slotted.{is_among, is_taken, AreFree, AreOwn, AreTaken, Guessed, IsOutside, IsSlotted, IsTaken}
-use Rattle.roll_requests.specs.declared.plans.Room.{Room}
 use Rattle.roll_requests.specs.declared.request.Request.{Request}
 use Rattle.roll_requests.proofs.Carrying.{carried_append}
 use Rattle.roll_requests.proofs.Filling.{are_held, held_kept, needed_taken}
@@ -240,12 +239,12 @@ last_taken taken start (slot ∷ slots) t all = all (length slots) 0 (omega arit
 pub record IsDone (mid new : Bare ℕ) (call : Call) (way : Way) (room : Room) (limit : ℕ) (jobs : Slab Guessed) : Type 0 where
   pub can : CanEnter mid call way
   pub room_is : IsRoom limit mid.saves.tree.states jobs room
-  pub many : length room.slots.items ≡ way.to - way.frame
+  pub many : length room.slots ≡ way.to - way.frame
   pub log : FollowsLog still mid.seen
   pub before : mid.saves.inputs ≡ inputs_of mid.seen.settings mid.seen.core
   pub after : new.saves.inputs ≡ inputs_of new.seen.settings new.seen.core
   pub core : new.seen.core ≡ applied mid.seen.core (entry_of call)
-  pub keeps : KeepsGiven mid.saves new.saves way.frame room.slots.items
+  pub keeps : KeepsGiven mid.saves new.saves way.frame room.slots
 
 module _ (mid new : Bare ℕ) (call : Call) (way : Way) (room : Room) (limit : ℕ) (jobs : Slab Guessed) (d : IsDone mid new call way room limit jobs) where
   stays_done : Stays mid.seen.core new.seen.core
@@ -275,22 +274,22 @@ module _ (mid new : Bare ℕ) (call : Call) (way : Way) (room : Room) (limit : �
       all_held (λ (v : Saved ℕ). there v.snapshot ≡ Some (run step opening (T ++ v.path))) (λ v. v.name == way.at) mid.saves.tree.states u h found
       ∙ ap (λ (q : Rows). Some (run step opening q)) (ap (λ (q : Rows). T ++ q) path ∙ whole players far way.frame low)
 
-  pub done_taken : (taken : List Bool) (at : ℕ) (u : Saved ℕ) → AreOwn mid.saves.tree.states jobs → state_named mid.saves.tree way.at ≡ Some u → at ≡ last_or u.snapshot room.slots.items → ((k : ℕ) → IsTaken room.held k → IsTaken taken k) → All (IsTaken taken) room.slots.items → IsSlotted new.saves.tree.states jobs at taken
+  pub done_taken : (taken : List Bool) (at : ℕ) (u : Saved ℕ) → AreOwn mid.saves.tree.states jobs → state_named mid.saves.tree way.at ≡ Some u → at ≡ last_or u.snapshot room.slots → ((k : ℕ) → IsTaken room.held k → IsTaken taken k) → All (IsTaken taken) room.slots → IsSlotted new.saves.tree.states jobs at taken
   done_taken taken at u own found is kept all =
       record {
         are = record {
-          saved = pass_given mid.saves new.saves way.frame room.slots.items d.keeps (is_taken taken) (λ k e few. kept _ (are_done.saved k e few)) all;
+          saved = pass_given mid.saves new.saves way.frame room.slots d.keeps (is_taken taken) (λ k e few. kept _ (are_done.saved k e few)) all;
           out = λ n job there. held_kept room.held taken kept job (are_done.out n job there);
         };
-        own = own_given mid.saves new.saves way.frame room.slots.items d.keeps jobs limit room.held are_done d.room_is.free own;
-        current = rw is (last_taken taken u.snapshot room.slots.items (kept u.snapshot (start_held u found)) all);
+        own = own_given mid.saves new.saves way.frame room.slots d.keeps jobs limit room.held are_done d.room_is.free own;
+        current = rw is (last_taken taken u.snapshot room.slots (kept u.snapshot (start_held u found)) all);
       }
 
-  pub done_leads : (taken left : List Bool) (at now : ℕ) (u : Saved ℕ) (old_requests requests : List Request) → AreTaken mid.saves.tree.states jobs taken → ((k : ℕ) → is_taken left k ≡ (is_taken room.held k || is_among room.slots.items k)) → state_named mid.saves.tree way.at ≡ Some u → now ≡ last_or u.snapshot room.slots.items
-      → requests ≡ old_requests ++ roll_requests at u.snapshot taken room.held (λ k. row_at mid.saves.inputs.players (way.frame + k)) room.slots.items
+  pub done_leads : (taken left : List Bool) (at now : ℕ) (u : Saved ℕ) (old_requests requests : List Request) → AreTaken mid.saves.tree.states jobs taken → ((k : ℕ) → is_taken left k ≡ (is_taken room.held k || is_among room.slots k)) → state_named mid.saves.tree way.at ≡ Some u → now ≡ last_or u.snapshot room.slots
+      → requests ≡ old_requests ++ roll_requests at u.snapshot taken room.held (λ k. row_at mid.saves.inputs.players (way.frame + k)) room.slots
       → (past : List Request) → Leads past (record { seen = mid.seen; saves = mid.saves; at = at; requests = old_requests; limit = limit; jobs = jobs; taken = taken }) → Leads past (record { seen = new.seen; saves = new.saves; at = now; requests = requests; limit = limit; jobs = jobs; taken = left })
   done_leads taken left at now u old_requests requests were filled found is list =
-      leads_rolled (record { seen = mid.seen; saves = mid.saves; at = at; requests = old_requests; limit = limit; jobs = jobs; taken = taken }) (record { seen = new.seen; saves = new.saves; at = now; requests = requests; limit = limit; jobs = jobs; taken = left }) call way.frame way.to u.snapshot room.held room.slots.items
+      leads_rolled (record { seen = mid.seen; saves = mid.saves; at = at; requests = old_requests; limit = limit; jobs = jobs; taken = taken }) (record { seen = new.seen; saves = new.saves; at = now; requests = requests; limit = limit; jobs = jobs; taken = left }) call way.frame way.to u.snapshot room.held room.slots
       (record {
         within = d.can.going.within;
         is_to = d.can.to;
@@ -315,7 +314,7 @@ pub leads_bare : (seen : Seen) (saves : Standing ℕ) (at : ℕ) (requests : Lis
     → Leads past (record { seen = record seen { reserved = reserved }; saves = saves; at = at; requests = requests; limit = limit; jobs = jobs; taken = taken })
 leads_bare seen saves at requests limit jobs taken reserved past l = record { there = l.there; shown = l.shown; jobs = l.jobs; taken = l.taken }
 
-no_job : (jobs : Slab Guessed) (n : ℕ) (job : Guessed) → jobs.slots ≡ [] → get jobs n ≡ Some job → ⊥
+pub no_job : (jobs : Slab Guessed) (n : ℕ) (job : Guessed) → jobs.slots ≡ [] → get jobs n ≡ Some job → ⊥
 no_job jobs n job none there =
     let empty : None ≡ Some job = sym (ap (λ (l : List (Option Guessed)). get_or l n None) none) ∙ there in
     absurd cc

@@ -4,6 +4,7 @@ pub mod Filling
 pub mod Declining
 pub mod Taking
 pub mod Numbering
+pub mod Limited
 pub mod Holding
 pub mod Owning
 pub mod Apart

@@ -84,12 +84,15 @@ pub record IsIdle (old new : Asked) : Type 0 where
   pub jobs : new.jobs ≡ old.jobs
   pub taken : new.taken ≡ old.taken
 
--- a call is refused by the rules; or the rules accept it, and memory ran out, or it needs more slots than are free
-abbrev pub IsDeclinedRoll : Seen → List (Saved ℕ) → Slab Guessed → (limit : ℕ) → Call → Declined → Type 0
-IsDeclinedRoll s states jobs limit call (RefusedBy why) =
+-- a call is refused by the rules; or the rules accept it, and it needs more slots than are free, or memory ran out, which it doesn't
+-- where an event was reserved and no request waits
+abbrev pub IsDeclinedRoll : Seen → List (Saved ℕ) → Slab Guessed → List Request → (limit : ℕ) → Call → Declined → Type 0
+IsDeclinedRoll s states jobs requests limit call (RefusedBy why) =
     IsReplied still s s (event_of call) (Refused why)
-    ⊎ ((why ≡ NoMemory) × (is_accepted s.settings (game_of still s) s.core (event_of call) ≡ true))
-IsDeclinedRoll s states jobs limit call NoSlots = LacksSlots s states jobs limit call
+    ⊎ ((why ≡ NoMemory)
+    × ((is_accepted s.settings (game_of still s) s.core (event_of call) ≡ true)
+    × (requests ≡ [] → s.reserved ≡ 0)))
+IsDeclinedRoll s states jobs requests limit call NoSlots = LacksSlots s states jobs limit call
 
 -- after a roll of so many frames those slots are taken that a state has that was saved before it, or a job, and the first so many
 -- of the others: whatever nothing needs any more is freed

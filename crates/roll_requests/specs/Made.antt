@@ -55,11 +55,11 @@ pub record IsMade (old new : Asked) (call : Call) (said : Reply) : Type 0 where
   pub seen : new.seen ≡ with_entries old.seen (log_from old.seen.settings (game_of still old.seen) old.seen.core (event_of call ∷ [])) old.seen.counts
   pub asks : AsksFor old new call
 
--- a call that rolls is declined: the rules refuse it, or memory or slots ran out; nothing is changed, but that more may be
--- reserved
+-- a call that rolls is declined: the rules refuse it, or slots ran out, or memory, which was not promised then; nothing is changed,
+-- but that more may be reserved
 abbrev pub IsNotRolled : Asked → Asked → Call → Declined → Type 0
 IsNotRolled old new call why =
-    IsDeclinedRoll old.seen old.saves.tree.states old.jobs old.limit call why × IsIdle old new
+    IsDeclinedRoll old.seen old.saves.tree.states old.jobs old.requests old.limit call why × IsIdle old new
 
 -- any other is refused, by the rules or for want of memory
 abbrev pub IsNotMade : Asked → Asked → Call → Declined → Type 0

@@ -1,5 +1,5 @@
 -- What a roll needs.
-use Rattle.std.specs.Prelude.{◌≡◌, ◌<◌, ℕ, List, length}
+use Rattle.std.specs.Prelude.{◌≡◌, ◌<◌, ℕ, Bool, List, length}
 use Rattle.roll_frame.specs.Core.{cost}
 use Rattle.roll_frame.specs.declared.refusal.Refusal.TheVariants.{NoMemory}
 use Rattle.roll_session.specs.Calls.{IsAllowed, IsRollTo}
@@ -11,14 +11,18 @@ use Rattle.slab.specs.Slab.{Slab}
 use Rattle.roll_requests.specs.Slotted.{free_slots, is_needed, is_taken, least_free, AreFree, AreWithin, Guessed}
 use Rattle.roll_requests.specs.declared.declined.Declined.{Declined}
 use Rattle.roll_requests.specs.declared.declined.Declined.TheVariants.{Refused, NoSlots}
-use Rattle.roll_requests.specs.declared.plans.Room.{Room}
+
+-- which slots are held, and those of a roll's states
+pub record Room : Type 0 where
+  pub held : List Bool
+  pub slots : List ℕ
 
 -- the slots of the saved states and of the jobs are held, and no others; those of a roll's states are the first free ones
 pub record IsRoom (limit : ℕ) (states : List (Saved ℕ)) (jobs : Slab Guessed) (room : Room) : Type 0 where
   pub held : (slot : ℕ) → is_taken room.held slot ≡ is_needed states jobs slot
-  pub least : room.slots.items ≡ least_free (is_needed states jobs) limit (length room.slots.items)
-  pub free : AreFree limit room.held room.slots.items
-  pub within : AreWithin room.held room.slots.items
+  pub least : room.slots ≡ least_free (is_needed states jobs) limit (length room.slots)
+  pub free : AreFree limit room.held room.slots
+  pub within : AreWithin room.held room.slots
 
 -- nothing of a session is changed, but that more is reserved and the tree was told more of the timeline
 pub record IsHardly (old new : Bare ℕ) : Type 0 where

@@ -1,9 +1,12 @@
 -- Slots, and the states and jobs that have some.
-use Rattle.std.specs.Prelude.{◌≡◌, ◌≢◌, ◌<◌, ℕ, List, length, take, slice_index_or, All, Bool, true, false, ◌&&◌, ◌||◌, ◌==◌, filter, not, Some}
+use Rattle.std.specs.Prelude.{◌≡◌, ◌≢◌, ◌<◌, ◌≤◌, ℕ, List, length, take, slice_index_or, All, Bool, true, false, ◌&&◌, ◌||◌, ◌==◌, filter, not, Some}
 use Rattle.std.specs.List.{list_any, range_with_len}
+use Rattle.roll_frame.specs.declared.limits.TheConstants.{BRANCH_LIMIT}
 use Rattle.roll_frame.specs.declared.route.Route.{Route}
+use Rattle.roll_requests.specs.declared.job.TheConstants.{JOBS_OUT}
+use Rattle.roll_requests.specs.declared.limits.TheConstants.{SLOTS}
 use Rattle.roll_tree.specs.SavedStates.{Saved}
-use Rattle.slab.specs.Slab.{Slab, entries, get}
+use Rattle.slab.specs.Slab.{Slab, entries, get, slab_len}
 
 -- a job that is out: where it runs, the slot of the state that it starts from, and those of its states, in their order
 pub record Guessed : Type 0 where
@@ -91,3 +94,9 @@ AreWithin taken slots = All (λ slot. slot < length taken) slots
 pub record HasPlaces (taken : List Bool) (job : Guessed) : Type 0 where
   pub start : job.start < length taken
   pub slots : AreWithin taken job.slots
+
+-- no slot is past the last that there is; no more jobs are out than may be, and each has a slot for each row of a branch at most
+pub record AreLimited (limit : ℕ) (jobs : Slab Guessed) : Type 0 where
+  pub slots : limit ≤ SLOTS
+  pub out : slab_len jobs ≤ JOBS_OUT
+  pub rows : (n : ℕ) (job : Guessed) → get jobs n ≡ Some job → length job.slots ≤ BRANCH_LIMIT

@@ -14,20 +14,22 @@ ghost use Rattle.roll_session.specs.Guessing.{guess_job_of, guess_refusal_of};
 ghost use Rattle.roll_session.specs.Headline.{last_claim};
 ghost use Rattle.roll_session.specs.Started.{first_seen};
 ghost use Rattle.roll_tree.specs.SavedStates.{state_named};
-ghost use Rattle.slab.specs.Slab.{get, SameValues, Updates};
+ghost use Rattle.slab.specs.Slab.{get, slab_len, SameValues, Updates};
 ghost use Rattle.roll_requests.specs.Asked.{rows_to_run, IsDeclinedRoll, IsGiven, IsHandedIn, IsIdle, IsNotGuessed, IsNumbered, IsSettledSlot, Leads, Rolls, SameTaken};
 ghost use Rattle.roll_requests.specs.Ended.{end_refusal, IsEnded};
 ghost use Rattle.roll_requests.specs.Planned.{IsShort};
 ghost use Rattle.roll_requests.specs.Requests.{Adds};
 ghost use Rattle.roll_requests.specs.Slotted.{free_slots, is_taken};
+ghost use Rattle.roll_requests.specs.Sufficing.{most_slots};
 ghost use Rattle.roll_requests.specs.declared.request.Request.{Request as Asks};
 
 use crate::asking::{ask_end, ask_job, ask_roll};
 use crate::closing::Closing;
 use crate::declined::Declined;
 use crate::ended::Ended;
-use crate::job::{Job, free_number};
-use crate::plans::{RollPlan, Room, plan_end, plan_job, plan_roll};
+use crate::job::{JOBS_OUT, Job, free_number};
+use crate::limits::SLOTS;
+use crate::plans::{RollPlan, plan_end, plan_job, plan_roll};
 use crate::queue::Queue;
 use crate::request::Request;
 use crate::taken::Taken;
@@ -36,6 +38,7 @@ use roll_session::{Call, Core, Grafted, Heard, Reached, RemoteWord};
 use slab::Slab;
 use std::alloc::Global;
 use std::marker::Model;
+use std::mem;
 
 /// A session whose game is played elsewhere: what it would do with the game becomes a list of requests, which are handed out in
 /// order. Each state that is saved, or that a job has, is in a slot elsewhere.
@@ -47,23 +50,25 @@ pub struct Elsewhere {
     // The slot of the current state.
     at: u32,
     taken: Taken,
+    // What a roll finds held.
+    held: Taken,
     limit: u32,
     jobs: Slab<Job>,
 }
 
 impl Model for Elsewhere {
     ghost use Rattle.roll_requests.specs.Asked.{Asked};
-    ghost use Rattle.roll_requests.specs.Slotted.{IsSlotted};
+    ghost use Rattle.roll_requests.specs.Slotted.{AreLimited, IsSlotted};
 
     ghost Value = { Asked };
 
     ghost view = { λ e. record { seen = e.core.seen; saves = e.core.saves; at = e.at; requests = e.queue.requests; limit = e.limit; jobs = e.jobs; taken = e.taken } };
 
-    ghost invariant = { λ e. IsSlotted e.core.saves.tree.states e.jobs e.at e.taken };
+    ghost invariant = { λ e. IsSlotted e.core.saves.tree.states e.jobs e.at e.taken × AreLimited e.limit e.jobs };
 }
 
 impl Elsewhere {
-    /// A session at its start, whose opening is the current state elsewhere, and is in slot 0. It may use any slot.
+    /// A session at its start, whose opening is the current state elsewhere, and is in slot 0. It may use all slots.
     ///
     /// # Errors
     ///
@@ -72,7 +77,7 @@ impl Elsewhere {
         ensures seen { IfOk result (λ e. e.seen ≡ first_seen settings [] no_calls) }
         ensures at { IfOk result (λ e. e.at ≡ 0) }
         ensures requests { IfOk result (λ e. e.requests ≡ []) }
-        ensures limit { IfOk result (λ e. e.limit ≡ u32.MAX) }
+        ensures limit { IfOk result (λ e. e.limit ≡ SLOTS) }
         ensures jobs { IfOk result (λ e. e.jobs.slots ≡ []) }
         ensures taken { IfOk result (λ e. e.taken ≡ true ∷ []) }
         ensures leads { IfOk result (Leads []) }
@@ -81,31 +86,42 @@ impl Elsewhere {
         if let Some(why) = settings.refusal() {
             return Err(why);
         }
+        let queue = Queue::new(alloc)?;
         let taken = Taken::opening(alloc)?;
+        let held = Taken::none(alloc)?;
         let core = Core::new(alloc, 0, settings)?;
         core.laws();
         Ok(Elsewhere {
             alloc,
             core,
-            queue: Queue::new(alloc),
+            queue,
             at: 0,
             taken,
-            limit: u32::MAX,
+            held,
+            limit: SLOTS as u32,
             jobs: Slab::new(alloc),
         })
     }
 
+    /// There are always as many slots as can be needed at once.
+    pub fn slots_are_there(&self)
+        ensures { most_slots self.now ≤ SLOTS }
+    {
+        self.core.laws();
+    }
+
     /// From now on new states are saved only in slots below this one. A call that finds too few of them free is declined.
     pub fn set_limit(&mut self, slots: u32)
-        ensures limit { self.new ≡ record self.old { limit = slots } }
+        ensures limit { self.new ≡ record self.old { limit = min slots SLOTS } }
         ensures leads { (past : List Asks) → Leads past self.old → Leads past self.new }
     {
-        self.limit = slots;
+        self.limit = slots.min(SLOTS as u32);
     }
 
     /// From which slot on no state is saved.
     pub fn limit(&self) -> u32
-        ensures { result ≡ self.now.limit }
+        ensures value { result ≡ self.now.limit }
+        ensures most { result ≤ SLOTS }
     {
         self.limit
     }
@@ -134,7 +150,7 @@ impl Elsewhere {
     /// # Errors
     ///
     /// As of the call of a session; `NoSlots` if it runs more frames than there are slots that no saved state and no job has.
-    /// Nothing is changed, but for what is reserved.
+    /// `NoMemory` only if no event was reserved, or requests wait. Nothing is changed, but for what is reserved.
     pub fn roll(&mut self, call: Call) -> Result<Reached, Declined>
         requires { IsRoll call }
         ensures allowed { OnOk result (IsAllowed still self.old.seen call) }
@@ -145,20 +161,19 @@ impl Elsewhere {
         ensures limit { self.new.limit ≡ self.old.limit }
         ensures leads { (past : List Asks) → Leads past self.old → Leads past self.new }
         ensures declined { IfErr result (IsDeclinedRoll self.old.seen
-            self.old.saves.tree.states self.old.jobs self.old.limit call) }
+            self.old.saves.tree.states self.old.jobs self.old.requests self.old.limit call) }
         ensures unchanged { OnErr result (IsIdle self.old self.new) }
     {
         let plan = plan_roll(
-            self.alloc,
             &mut self.core,
             &mut self.queue,
+            &mut self.held,
             &self.taken,
             &self.jobs,
             self.limit,
             call,
         )?;
-        let RollPlan { way, room } = plan;
-        let Room { mut held, slots } = room;
+        let RollPlan { way, slots } = plan;
         self.core.laws();
         self.at = ask_roll(
             &mut self.queue,
@@ -166,12 +181,12 @@ impl Elsewhere {
             &self.core,
             &way,
             &self.taken,
-            &held,
+            &self.held,
             &slots,
         );
-        held.fill_all(&slots);
-        self.taken = held;
-        self.core.enter(call, way, slots);
+        self.held.fill_all(&slots);
+        mem::swap(&mut self.taken, &mut self.held);
+        self.core.enter(call, way, &slots);
         self.core.laws();
         Ok(Reached {
             frame: way.to,
@@ -278,6 +293,7 @@ impl Elsewhere {
     fn make_job(&mut self, number: u32, node: usize, route: &Route) -> Result<(), Declined>
         requires next { number ≡ self.old.jobs.vacant_key }
         requires vacant { get self.old.jobs number ≡ None }
+        requires few { slab_len self.old.jobs < JOBS_OUT }
         requires node { IsSomeAnd (state_named self.old.saves.tree node)
             (λ u. u.path ≡ route.now.path.rows.items) }
         requires base { route.now.path.base ≡ self.old.saves.inputs.settled }
@@ -337,6 +353,13 @@ impl Elsewhere {
         let outcome = self.core.graft(0, job.route, job.slots, true);
         self.core.laws();
         outcome
+    }
+
+    /// How many jobs are out.
+    pub fn jobs_out(&self) -> usize
+        ensures { result ≡ slab_len self.now.jobs }
+    {
+        self.jobs.len()
     }
 
     /// Gives a job up, and says whether there was one of this number.

@@ -1,5 +1,5 @@
 //! Jobs that are out.
-ghost use Rattle.std.specs.Prelude.{◌≡◌, ◌≤◌, ◌⊎◌, ◌^◌, ◌||◌, ℕ, length, IfNone, IfSome, None, Some};
+ghost use Rattle.std.specs.Prelude.{◌≡◌, ◌≤◌, ◌<◌, ◌⊎◌, ◌^◌, ◌||◌, ℕ, length, IfNone, IfSome, None, OnSome, Some};
 ghost use Rattle.slab.specs.Slab.{get, slab_len};
 ghost use Rattle.roll_requests.specs.Slotted.{holds, is_out, is_taken, Guessed, HasPlaces};
 
@@ -51,6 +51,7 @@ impl Job {
 pub fn free_number(jobs: &Slab<Job>) -> Option<u32>
     ensures next { IfSome result (λ number. number ≡ jobs.now.vacant_key) }
     ensures vacant { IfSome result (λ number. get jobs.now number ≡ None) }
+    ensures few { OnSome result (slab_len jobs.now < JOBS_OUT) }
     ensures full { IfNone result
         ((JOBS_OUT ≤ slab_len jobs.now) ⊎ (2 ^ 32 ≤ jobs.now.vacant_key)) }
 {

@@ -1,5 +1,5 @@
 //! What a roll, a job or an end needs, so that nothing of it can fail any more.
-ghost use Rattle.std.specs.Prelude.{◌≡◌, ◌≤◌, ◌+◌, ◌*◌, ◌-◌, ℕ, length, max, IfErr, IfOk, OnOk};
+ghost use Rattle.std.specs.Prelude.{◌≡◌, ◌≤◌, ◌<◌, ◌+◌, ◌*◌, ◌-◌, ℕ, length, max, IfErr, IfNone, IfOk, IfSome, OnOk};
 ghost use Rattle.roll_frame.specs.Core.{depth, settled};
 ghost use Rattle.roll_session.specs.Calls.{IsRoll};
 ghost use Rattle.roll_session.specs.Changes.{IsWhy};
@@ -12,65 +12,60 @@ ghost use Rattle.slab.specs.Slab.{HasRoomFor};
 
 use crate::declined::Declined;
 use crate::job::{Job, fill_jobs};
+use crate::limits::SLOTS;
 use crate::queue::Queue;
 use crate::taken::Taken;
+use arrayvec::ArrayVec;
 use roll_branch::PackedRoute;
-use roll_frame::{Refusal, Route};
+use roll_frame::{BRANCH_LIMIT, PATH_LIMIT, Refusal, Route};
 use roll_session::{Call, Core, Settling, Way};
 use roll_tree::Tree;
 use slab::Slab;
 use std::alloc::Global;
 
-/// The slots that the saved states and the jobs hold, and those of a roll's states.
-#[derive(Drop)]
-pub struct Room {
-    pub held: Taken,
-    pub slots: Vec<u32>,
-}
-
-/// A roll to be done.
+/// A roll to be done, and the slots of its states.
 #[derive(Drop)]
 pub struct RollPlan {
     pub way: Way,
-    pub room: Room,
+    pub slots: ArrayVec<u32, PATH_LIMIT>,
 }
 
-/// Finds slots for so many states of a roll, before which all slots are freed that nothing holds.
-///
-/// # Errors
-///
-/// `NoSlots` if too few are free then, or `NoMemory`.
+/// Finds slots for so many states of a roll, before which all slots are freed that nothing holds. None if too few are free then.
+/// What is held is noted.
 fn find_room(
-    alloc: Global,
+    held: &mut Taken,
     taken: &Taken,
     tree: &Tree<u32>,
     jobs: &Slab<Job>,
     count: usize,
     limit: u32,
-) -> Result<Room, Declined>
-    requires { AreTaken tree.now.states jobs.now taken.now }
-    ensures many { IfOk result (λ room. length room.slots.items ≡ count) }
-    ensures room { IfOk result (IsRoom limit tree.now.states jobs.now) }
-    ensures short { IfErr result
-        (IsShort (length (free_slots (is_needed tree.now.states jobs.now) limit)) count) }
+) -> Option<ArrayVec<u32, PATH_LIMIT>>
+    requires taken { AreTaken tree.now.states jobs.now taken.now }
+    requires few { count ≤ PATH_LIMIT }
+    requires limit { limit ≤ SLOTS }
+    ensures many { IfSome result (λ slots. length slots.items ≡ count) }
+    ensures room { IfSome result (λ slots. IsRoom limit tree.now.states jobs.now
+        (record { held = held.new; slots = slots.items })) }
+    ensures short { IfNone result
+        (length (free_slots (is_needed tree.now.states jobs.now) limit) < count) }
 {
-    let mut held = taken.cleared(alloc)?;
+    held.clear_as(taken);
     held.fill_saved(tree);
-    fill_jobs(&mut held, jobs);
-    let slots = held.find(alloc, count, limit)?;
-    held.reach(&slots)?;
-    Ok(Room { held, slots })
+    fill_jobs(held, jobs);
+    let slots = held.find(count, limit)?;
+    held.reach(&slots);
+    Some(slots)
 }
 
-/// Judges a call that rolls, and makes room for all that it needs.
+/// Judges a call that rolls, makes room for all that it needs, and notes what is held.
 ///
 /// # Errors
 ///
-/// As of the call of a session; `NoSlots` if too few slots are free.
+/// As of the call of a session; `NoSlots` if too few slots are free. `NoMemory` only if none was reserved, or requests wait.
 pub fn plan_roll(
-    alloc: Global,
     core: &mut Core<u32>,
     queue: &mut Queue,
+    held: &mut Taken,
     taken: &Taken,
     jobs: &Slab<Job>,
     limit: u32,
@@ -78,27 +73,30 @@ pub fn plan_roll(
 ) -> Result<RollPlan, Declined>
     requires roll { IsRoll call }
     requires taken { AreTaken core.old.saves.tree.states jobs.now taken.now }
+    requires limit { limit ≤ SLOTS }
     ensures can { IfOk result (λ plan. CanEnter core.new call plan.way) }
     ensures looked { OnOk result (core.new.seen
         ≡ record core.old.seen { reserved = max core.old.seen.reserved 1 }) }
     ensures reserved { OnOk result (1 ≤ core.new.seen.reserved) }
     ensures from { IfOk result (λ plan. plan.way.frame ≡ depth core.old.seen.core plan.way.to) }
     ensures many { IfOk result
-        (λ plan. length plan.room.slots.items ≡ plan.way.to - plan.way.frame) }
-    ensures room { IfOk result
-        (λ plan. IsRoom limit core.new.saves.tree.states jobs.now plan.room) }
+        (λ plan. length plan.slots.items ≡ plan.way.to - plan.way.frame) }
+    ensures room { IfOk result (λ plan. IsRoom limit core.new.saves.tree.states jobs.now
+        (record { held = held.new; slots = plan.slots.items })) }
     ensures space { IfOk result
-        (λ plan. 1 + length taken.now + 2 * length plan.room.slots.items ≤ queue.new.room) }
+        (λ plan. 1 + length taken.now + 2 * length plan.slots.items ≤ queue.new.room) }
     ensures hardly { IsHardly core.old core.new }
     ensures requests { queue.new.requests ≡ queue.old.requests }
-    ensures declined { IfErr result
-        (IsDeclinedRoll core.old.seen core.old.saves.tree.states jobs.now limit call) }
+    ensures declined { IfErr result (IsDeclinedRoll core.old.seen core.old.saves.tree.states
+        jobs.now queue.old.requests limit call) }
 {
     let way = core.look(call)?;
     let count = (way.to - way.frame) as usize;
-    let room = find_room(alloc, taken, core.saved(), jobs, count, limit)?;
+    let Some(slots) = find_room(held, taken, core.saved(), jobs, count, limit) else {
+        return Err(Declined::NoSlots);
+    };
     queue.reserve(1 + taken.len() + 2 * count)?;
-    Ok(RollPlan { way, room })
+    Ok(RollPlan { way, slots })
 }
 
 /// Finds slots for the states of a job that starts from the state in a slot, and makes room for all that it needs.
@@ -115,9 +113,11 @@ pub fn plan_job(
     route: &Route,
     limit: u32,
 ) -> Result<Job, Declined>
+    requires { limit ≤ SLOTS }
     ensures route { IfOk result (λ job. job.route ≡ route.now) }
     ensures start { IfOk result (λ job. job.start ≡ start) }
     ensures many { IfOk result (λ job. length job.slots ≡ length route.now.rows.items) }
+    ensures few { IfOk result (λ job. length job.slots ≤ BRANCH_LIMIT) }
     ensures free { IfOk result (λ job. AreFree limit taken.old job.slots) }
     ensures least { IfOk result
         (λ job. job.slots ≡ least_free (is_taken taken.old) limit (length job.slots)) }
@@ -131,8 +131,11 @@ pub fn plan_job(
         (length route.now.rows.items)) }
 {
     let count = route.rows.len();
-    let slots = taken.find(alloc, count, limit)?;
-    taken.reach(&slots)?;
+    let Some(found) = taken.find(count, limit) else {
+        return Err(Declined::NoSlots);
+    };
+    taken.reach(&found);
+    let slots = Vec::from_slice(alloc, &found)?;
     let packed = PackedRoute::new(alloc, route)?;
     queue.reserve(1 + 2 * count)?;
     jobs.reserve(1)?;

@@ -1,6 +1,7 @@
 //! Requests that wait to be handed out.
-ghost use Rattle.std.specs.Prelude.{◌≡◌, ◌==◌, ◌≤◌, ◌+◌, ◌++◌, ◌∷◌, [], drop, length, min, take, OnOk};
+ghost use Rattle.std.specs.Prelude.{◌≡◌, ◌==◌, ◌≤◌, ◌<◌, ◌+◌, ◌++◌, ◌∷◌, [], drop, length, min, take, IfOk, OnErr, OnOk};
 
+use crate::limits::ROOM;
 use crate::request::Request;
 use std::alloc::{AllocError, Global};
 use std::marker::Model;
@@ -15,30 +16,33 @@ pub struct Queue {
 impl Model for Queue {
     ghost use Rattle.std.specs.Prelude.{◌≤◌, ◌-◌, drop, length, vec_capacity};
     ghost use Rattle.roll_requests.specs.Requests.{Queued};
+    ghost use Rattle.roll_requests.specs.declared.limits.TheConstants.{ROOM};
 
     ghost Value = { Queued };
 
     ghost view = { λ q. record { requests = drop q.given q.list.items; room = vec_capacity q.list - length q.list.items } };
 
-    ghost invariant = { λ q. q.given ≤ length q.list.items };
+    ghost invariant = { λ q. (q.given ≤ length q.list.items) × (ROOM ≤ vec_capacity q.list) };
 }
 
 impl Queue {
-    /// None.
-    pub fn new(alloc: Global) -> Queue
-        ensures { result.requests ≡ [] }
+    /// None, with room for those of any roll.
+    pub fn new(alloc: Global) -> Result<Queue, AllocError>
+        ensures { IfOk result (λ queue. queue.requests ≡ []) }
     {
-        Queue {
-            list: Vec::new(alloc),
+        Ok(Queue {
+            list: Vec::with_capacity(alloc, ROOM)?,
             given: 0,
-        }
+        })
     }
 
-    /// Makes room for so many more.
+    /// Makes room for so many more. Where none waits, it is there for those of a roll.
     pub fn reserve(&mut self, count: usize) -> Result<(), AllocError>
         ensures room { OnOk result (count ≤ self.new.room) }
+        ensures short { OnErr result (self.old.requests ≡ [] → ROOM < count) }
         ensures same { self.new.requests ≡ self.old.requests }
     {
+        self.forget_given();
         self.list.reserve(count)
     }
 
@@ -63,12 +67,12 @@ impl Queue {
         ensures { self.new.requests ≡ drop count self.old.requests }
     {
         self.given += count.min(self.list.len() - self.given);
-        self.forget_given();
     }
 
     /// Drops what was handed out, once all was.
     fn forget_given(&mut self)
-        ensures { self.new.requests ≡ self.old.requests }
+        ensures same { self.new.requests ≡ self.old.requests }
+        ensures room { self.new.requests ≡ [] → ROOM ≤ self.new.room }
     {
         if self.given == self.list.len() {
             self.list.clear();

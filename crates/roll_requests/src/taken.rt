@@ -1,10 +1,11 @@
 //! The slots for states elsewhere.
-ghost use Rattle.std.specs.Prelude.{◌≡◌, ◌≤◌, ◌<◌, ◌||◌, ◌∷◌, [], ℕ, false, length, slice_set, true, All, IfErr, IfOk, OnOk};
-ghost use Rattle.roll_requests.specs.Planned.{IsShort};
+ghost use Rattle.std.specs.Prelude.{◌≡◌, ◌≤◌, ◌<◌, ◌||◌, ◌∷◌, [], ℕ, false, length, max, slice_set, true, All, IfNone, IfOk, IfSome};
 ghost use Rattle.roll_requests.specs.Slotted.{free_slots, is_among, is_saved, is_taken, least_free, AreFree};
 ghost use Rattle.roll_tree.specs.SavedStates.{Saved};
 
-use crate::declined::Declined;
+use crate::limits::SLOTS;
+use arrayvec::ArrayVec;
+use roll_frame::PATH_LIMIT;
 use roll_tree::Tree;
 use std::alloc::{AllocError, Global};
 use std::marker::Model;
@@ -16,39 +17,48 @@ pub struct Taken {
 }
 
 impl Model for Taken {
-    ghost use Rattle.std.specs.Prelude.{◌≤◌, length, Bool, List};
+    ghost use Rattle.roll_requests.specs.declared.limits.TheConstants.{SLOTS};
+    ghost use Rattle.std.specs.Prelude.{◌≤◌, length, vec_capacity, Bool, List};
 
     ghost Value = { List Bool };
 
     ghost view = { λ s. s.taken.items };
 
-    ghost invariant = { λ s. length s.taken.items ≤ 4294967296 };
+    ghost invariant = { λ s. (length s.taken.items ≤ SLOTS) × (SLOTS ≤ vec_capacity s.taken) };
 }
 
 impl Taken {
+    /// No slots, with room for all.
+    pub fn none(alloc: Global) -> Result<Taken, AllocError>
+        ensures { IfOk result (λ slots. slots ≡ []) }
+    {
+        Ok(Taken {
+            taken: Vec::with_capacity(alloc, SLOTS)?,
+        })
+    }
+
     /// The opening's slot is taken.
     pub fn opening(alloc: Global) -> Result<Taken, AllocError>
         ensures { IfOk result (λ slots. slots ≡ true ∷ []) }
     {
-        let mut taken = Vec::new(alloc);
-        taken.push(true)?;
-        Ok(Taken { taken })
+        let mut slots = Taken::none(alloc)?;
+        slots.taken.push_reserved(true);
+        Ok(slots)
     }
 
-    /// As many slots, of which none is taken.
-    pub fn cleared(&self, alloc: Global) -> Result<Taken, AllocError>
-        ensures many { IfOk result (λ slots. length slots ≡ length self.now) }
-        ensures none { IfOk result (λ slots. (slot : ℕ) → is_taken slots slot ≡ false) }
+    /// As many slots as others, of which none is taken.
+    pub fn clear_as(&mut self, others: &Taken)
+        ensures many { length self.new ≡ length others.now }
+        ensures none { (slot : ℕ) → is_taken self.new slot ≡ false }
     {
-        Ok(Taken {
-            taken: Vec::from_elem(alloc, false, self.taken.len())?,
-        })
+        self.taken.clear();
+        self.lengthen(others.len());
     }
 
     /// How many there are up to the last that was ever taken.
     pub fn len(&self) -> usize
         ensures value { result ≡ length self.now }
-        ensures few { result ≤ 4294967296 }
+        ensures few { result ≤ SLOTS }
     {
         self.taken.len()
     }
@@ -97,56 +107,52 @@ impl Taken {
         }
     }
 
-    /// The first slots below a limit that aren't taken.
-    ///
-    /// # Errors
-    ///
-    /// `NoSlots` if there are fewer, or `NoMemory`.
-    pub fn find(&self, alloc: Global, count: usize, limit: u32) -> Result<Vec<u32>, Declined>
-        ensures many { IfOk result (λ slots. length slots.items ≡ count) }
-        ensures free { IfOk result (λ slots. AreFree limit self.now slots.items) }
-        ensures least { IfOk result
+    /// The first slots below a limit that aren't taken, or none if there are fewer.
+    pub fn find(&self, count: usize, limit: u32) -> Option<ArrayVec<u32, PATH_LIMIT>>
+        requires { count ≤ PATH_LIMIT }
+        ensures many { IfSome result (λ slots. length slots.items ≡ count) }
+        ensures free { IfSome result (λ slots. AreFree limit self.now slots.items) }
+        ensures least { IfSome result
             (λ slots. slots.items ≡ least_free (is_taken self.now) limit count) }
-        ensures short { IfErr result
-            (IsShort (length (free_slots (is_taken self.now) limit)) count) }
+        ensures short { IfNone result
+            (length (free_slots (is_taken self.now) limit) < count) }
     {
-        let mut slots = Vec::with_capacity(alloc, count)?;
+        let mut slots = ArrayVec::new();
         for slot in 0..limit {
             if slots.len() == count {
                 break;
             }
             if !self.has(slot) {
-                slots.push_reserved(slot);
+                slots.push(slot);
             }
         }
         if slots.len() == count {
-            Ok(slots)
+            Some(slots)
         } else {
-            Err(Declined::NoSlots)
+            None
         }
     }
 
-    /// Makes room to take these slots.
-    pub fn reach(&mut self, slots: &[u32]) -> Result<(), AllocError>
-        ensures within { OnOk result (All (λ slot. slot < length self.new) slots.now) }
+    /// Makes places for these slots.
+    pub fn reach(&mut self, slots: &[u32])
+        requires { All (λ slot. slot < SLOTS) slots.now }
+        ensures within { All (λ slot. slot < length self.new) slots.now }
         ensures same { (slot : ℕ) → is_taken self.new slot ≡ is_taken self.old slot }
         ensures many { length self.old ≤ length self.new }
     {
         for slot in slots {
-            self.reach_one(*slot)?;
+            self.lengthen(*slot as usize + 1);
         }
-        Ok(())
     }
 
-    fn reach_one(&mut self, slot: u32) -> Result<(), AllocError>
-        ensures within { OnOk result (slot < length self.new) }
-        ensures same { (k : ℕ) → is_taken self.new k ≡ is_taken self.old k }
-        ensures many { length self.old ≤ length self.new }
+    /// Makes places for the slots below this one.
+    fn lengthen(&mut self, len: usize)
+        requires { len ≤ SLOTS }
+        ensures many { length self.new ≡ max (length self.old) len }
+        ensures same { (slot : ℕ) → is_taken self.new slot ≡ is_taken self.old slot }
     {
-        let len = slot as usize + 1;
-        if self.taken.len() < len {
-            self.taken.resize(len, false)?;
+        for _ in self.taken.len()..len {
+            self.taken.push_reserved(false);
         }
-        Ok(())
     }
 }

@@ -144,15 +144,15 @@ impl<S> Core<S> {
     }
 
     /// Takes in the states of a roll that was looked at, all of them, in their order.
-    pub fn enter(&mut self, call: Call, way: Way, states: Vec<S>)
+    pub fn enter(&mut self, call: Call, way: Way, states: &[S])
     where
-        S: Drop,
+        S: Copy,
         requires can { CanEnter self.old call way }
-        requires all { length states.items ≡ way.to - way.frame }
+        requires all { length states.now ≡ way.to - way.frame }
         requires room { 1 ≤ self.old.seen.reserved }
         ensures entered { self.new.seen
             ≡ with_entries self.old.seen (entry_of call ∷ []) self.old.seen.counts }
-        ensures keeps { KeepsGiven self.old.saves self.new.saves way.frame states.items }
+        ensures keeps { KeepsGiven self.old.saves self.new.saves way.frame states.now }
     {
         self.saves.plan(&mut self.planner, &way);
         add_rolled(&mut self.saves, way, states);

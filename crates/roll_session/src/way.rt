@@ -8,7 +8,6 @@ ghost use Rattle.roll_session.specs.Ways.{next_state, IsGoing};
 
 use crate::saves::Saves;
 use roll_frame::Row;
-use std::collections::VecDeque;
 
 /// A roll in progress: it stands at the deepest saved state on the timeline's way to a frame.
 #[derive(Clone, Copy, Debug)]
@@ -62,19 +61,18 @@ impl<S> Saves<S> {
 }
 
 /// Saves the states of a roll, or the first of them.
-pub fn add_rolled<S: Drop>(saves: &mut Saves<S>, start: Way, states: Vec<S>)
+pub fn add_rolled<S: Copy>(saves: &mut Saves<S>, start: Way, states: &[S])
     requires going { IsGoing saves.old start }
-    requires few { length states.items ≤ start.to - start.frame }
+    requires few { length states.now ≤ start.to - start.frame }
     ensures inputs { saves.new.inputs ≡ saves.old.inputs }
     ensures room { saves.new.room ≡ saves.old.room }
-    ensures paths { GrowsBy saves.old saves.new start.to (length states.items) }
-    ensures kept { KeepsRolled saves.old saves.new start.frame states.items (length states.items) }
+    ensures paths { GrowsBy saves.old saves.new start.to (length states.now) }
+    ensures kept { KeepsRolled saves.old saves.new start.frame states.now (length states.now) }
 {
     let end = start.frame + states.len() as u32;
     let mut way = start;
-    let mut left = VecDeque::from(states);
     for frame in start.frame..end {
-        let snapshot = left.pop_front().unwrap();
+        let snapshot = states[(frame - start.frame) as usize];
         saves.go_on(&mut way, snapshot);
     }
 }

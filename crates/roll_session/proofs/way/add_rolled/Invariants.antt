@@ -1,4 +1,4 @@
-use Rattle.std.proofs.Common.{◌≡◌, ◌-◌, drop}
+use Rattle.std.proofs.Common.{◌≡◌, ◌-◌}
 use Rattle.roll_session.specs.Gameless.{KeepsRolled}
 use Rattle.roll_session.specs.Ways.{IsGoing}
 use Rattle.roll_session.proofs.Ways.{IsLonger}
@@ -10,6 +10,5 @@ invariant-loop-frame g l = record {
   going : IsGoing l.saves l.way;
   frame : l.way.frame ≡ l.frame;
   to : l.way.to ≡ l.fn.start.to;
-  kept : KeepsRolled l.fn.saves l.saves l.fn.start.frame l.fn.states.items (l.frame - l.fn.start.frame);
-  left : l.left.items ≡ drop (l.frame - l.fn.start.frame) l.fn.states.items;
+  kept : KeepsRolled l.fn.saves l.saves l.fn.start.frame l.states (l.frame - l.fn.start.frame);
 }

@@ -3,12 +3,14 @@ use Rattle.slab.specs.Slab.{get}
 use Rattle.roll_requests.specs.Asked.{Asked}
 use Rattle.roll_requests.specs.Slotted.{Guessed}
 use Rattle.roll_requests.proofs.Leads.{handed_in, leads_grafted, leads_left, taken_grafted, taken_left}
+use Rattle.roll_requests.proofs.Limited.{limited_left}
 use Rattle.roll_requests.proofs.elsewhere.Elsewhere.graft.Goals as goal
 
 pub invariant_of-self : goal.invariant_of-self
 invariant_of-self c =
     let i = c.self.inside in
-    taken_left i.core.saves.tree.states i.jobs c.try_remove.new.self i.at c.args.job i.taken c.try_remove.ensures.updates c.self.invariant
+    let e = c.try_remove.ensures in
+    (taken_left i.core.saves.tree.states i.jobs c.try_remove.new.self i.at c.args.job i.taken e.updates c.self.invariant.0, limited_left c.try_remove.result i.limit c.args.job i.jobs c.try_remove.new.self e.updates e.len e.absent c.self.invariant.1)
 
 pub returns-in_default-clause-leads : goal.returns-in_default-clause-leads
 returns-in_default-clause-leads c =
@@ -25,9 +27,12 @@ invariant_of-self-2 c =
     let e = c.graft-outcome.ensures in
     let job : Guessed = record { route = c.job.inside.route; start = c.job.inside.start; slots = c.job.inside.slots.items } in
     let there : get i.jobs c.args.job ≡ Some job = sym c.in-Some.ensures.value ∙ ap Some (sym c.job.view_is) in
-    taken_grafted c.graft-outcome.result i.core c.graft-outcome.new.self i.jobs c.try_remove.new.self i.at c.args.job job i.taken
-    (record { log = c.laws.ensures.log; before = c.laws.ensures.inputs; after = c.laws-2.ensures.inputs; accepted = e.accepted; taken = e.taken; keeps = e.branch; unchanged = e.unchanged })
-    there c.try_remove.ensures.updates c.self.invariant
+    let r = c.try_remove.ensures in (
+      taken_grafted c.graft-outcome.result i.core c.graft-outcome.new.self i.jobs c.try_remove.new.self i.at c.args.job job i.taken
+          (record { log = c.laws.ensures.log; before = c.laws.ensures.inputs; after = c.laws-2.ensures.inputs; accepted = e.accepted; taken = e.taken; keeps = e.branch; unchanged = e.unchanged })
+          there r.updates c.self.invariant.0,
+      limited_left c.try_remove.result i.limit c.args.job i.jobs c.try_remove.new.self r.updates r.len r.absent c.self.invariant.1,
+    )
 
 pub returns-clause-grafted : goal.returns-clause-grafted
 returns-clause-grafted c =

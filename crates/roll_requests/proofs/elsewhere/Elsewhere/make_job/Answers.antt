@@ -1,6 +1,6 @@
-use Rattle.std.proofs.Common.{◌≡◌, ◌∙◌, ◌++◌, [], ℕ, List, None, Some, ap, get_or, length, lit<, refl, subst, sym}
+use Rattle.std.proofs.Common.{◌≡◌, ◌∙◌, ◌++◌, ◌+◌, ◌<◌, [], ℕ, List, None, Some, ap, get_or, length, lit<, refl, subst, sym}
 use Rattle.std.specs.Prelude.{◌||◌, option_map, All, IfErr, IsSomeAnd}
-use Rattle.slab.specs.Slab.{get, Slab, Updates}
+use Rattle.slab.specs.Slab.{get, slab_len, Slab, Updates}
 use Rattle.roll_frame.specs.declared.route.Route.{Route}
 use Rattle.roll_frame.specs.declared.row.Cell.{Cell}
 use Rattle.roll_session.specs.Gameless.{bare_branch}
@@ -9,12 +9,14 @@ use Rattle.roll_requests.specs.Asked.{Asked, IsGiven}
 use Rattle.roll_requests.specs.Planned.{IsShort}
 use Rattle.roll_requests.specs.Requests.{job_requests, Adds}
 use Rattle.roll_requests.specs.Slotted.{free_slots, is_among, is_taken, Guessed, IsOutside, IsTaken}
+use Rattle.roll_requests.specs.declared.job.TheConstants.{JOBS_OUT}
 use Rattle.roll_requests.specs.declared.request.Request.{Request}
 use Rattle.roll_requests.proofs.Apart.{job_apart}
 use Rattle.roll_requests.proofs.Counting.{job_adds}
 use Rattle.roll_requests.proofs.Declining.{passed_on}
 use Rattle.roll_requests.proofs.Filling.{are_kept, now_taken, still_taken}
 use Rattle.roll_requests.proofs.Leads.{leads_same}
+use Rattle.roll_requests.proofs.Limited.{limited_more}
 use Rattle.roll_requests.proofs.Numbering.{leads_guessed, numbered, start_has, starts_here, taken_guessed}
 use Rattle.roll_session.proofs.Rolling.{some_is, some_there}
 use Rattle.roll_requests.proofs.elsewhere.Elsewhere.make_job.Goals as goal
@@ -23,9 +25,10 @@ pub invariant_of-self : goal.invariant_of-self
 invariant_of-self c =
     let i = c.self.inside in
     let e = c.plan_job.ensures in
-    let kept = are_kept i.core.saves.tree.states i.jobs i.taken c.plan_job.new.taken (λ k t. e.taken k ∙ t) c.self.invariant.are in
-    let own = c.self.invariant.own in
-    rw e.jobs (record { are = record { saved = kept.saved; out = kept.out }; own = record { saved = own.saved; others = own.others }; current = e.taken i.at ∙ c.self.invariant.current })
+    let kept = are_kept i.core.saves.tree.states i.jobs i.taken c.plan_job.new.taken (λ k t. e.taken k ∙ t) c.self.invariant.0.are in
+    let own = c.self.invariant.0.own in
+    let a = c.self.invariant.1 in
+    rw e.jobs (record { are = record { saved = kept.saved; out = kept.out }; own = record { saved = own.saved; others = own.others }; current = e.taken i.at ∙ c.self.invariant.0.current }, record { slots = a.slots; out = a.out; rows = a.rows })
 
 pub returns-in_err-job-clause-leads : goal.returns-in_err-job-clause-leads
 returns-in_err-job-clause-leads c =
@@ -40,6 +43,9 @@ returns-in_err-job-clause-short c =
     let rows = length c.args.route.now.rows.items in
     subst (λ (a : Asked). IfErr c.from_residual.result (IsShort (length (free_slots (is_taken a.taken) a.limit)) rows)) c.self.view_is
     (passed_on c.from_residual.result c.in_err-job.field-0.0 (IsShort (length (free_slots (is_taken c.self.inside.taken) c.self.inside.limit)) rows) c.from_residual.ensures.1 c.in_err-job.ensures.short)
+
+pub plan_job-requires : goal.plan_job-requires
+plan_job-requires c = c.self.invariant.1.slots
 
 pub get-start-requires : goal.get-start-requires
 get-start-requires c =
@@ -96,8 +102,14 @@ invariant_of-self-2 c =
     let slots = c.in_ok-job.job.slots in
     let filled = filled_of c in
     let kept = still_taken i.taken c.fill_all.new.self slots filled in
-    taken_guessed i.core.saves.tree.states i.jobs c.insert_reserved.new.self i.at c.args.number i.limit c.in_ok-job.job i.taken c.fill_all.new.self c.self.invariant c.in_ok-job.ensures.free (updates_of c) kept
-    (record { start = kept c.in_ok-job.job.start (has_of c (IsTaken i.taken) c.self.invariant.are.saved); slots = now_taken i.taken c.fill_all.new.self slots filled })
+    let e = c.in_ok-job.ensures in
+    let jobs = c.plan_job.ensures.jobs in
+    let more : slab_len c.insert_reserved.new.self ≡ slab_len i.jobs + 1 = c.insert_reserved.ensures.len ∙ ap (λ (s : Slab Guessed). slab_len s + 1) jobs in
+    let few : slab_len i.jobs < JOBS_OUT = subst (λ (a : Asked). slab_len a.jobs < JOBS_OUT) (sym c.self.view_is) c.requires.few in (
+      taken_guessed i.core.saves.tree.states i.jobs c.insert_reserved.new.self i.at c.args.number i.limit c.in_ok-job.job i.taken c.fill_all.new.self c.self.invariant.0 e.free (updates_of c) kept
+          (record { start = kept c.in_ok-job.job.start (has_of c (IsTaken i.taken) c.self.invariant.0.are.saved); slots = now_taken i.taken c.fill_all.new.self slots filled }),
+      limited_more i.limit c.args.number i.jobs c.insert_reserved.new.self c.in_ok-job.job (updates_of c) more few e.few c.self.invariant.1,
+    )
 
 -- what is asked
 list_of : (c : goal.After-insert_reserved) → c.ask_job.new.queue.requests ≡ c.self.inside.queue.requests ++ job_requests c.in_ok-job.job.start (λ k. get_or c.in_ok-job.job.route.rows.items k []) c.in_ok-job.job.slots
@@ -130,7 +142,7 @@ returns-clause-adds c =
     let rows = length c.args.route.now.rows.items in
     subst (λ (a : Asked). Adds a.limit 0 rows a.jobs a.requests c.ask_job.new.queue.requests) c.self.view_is
     (job_adds i.limit job.start row job.slots rows i.jobs i.queue.requests c.ask_job.new.queue.requests e.free.below e.many
-    (λ n other there. job_apart other i.taken (c.self.invariant.are.out n other there) i.limit job.start row job.slots (has_of c (IsOutside other.slots) (c.self.invariant.own.saved n other there)) e.free)
+    (λ n other there. job_apart other i.taken (c.self.invariant.0.are.out n other there) i.limit job.start row job.slots (has_of c (IsOutside other.slots) (c.self.invariant.0.own.saved n other there)) e.free)
     (list_of c))
 
 pub returns-clause-leads : goal.returns-clause-leads
@@ -145,5 +157,5 @@ returns-clause-leads c =
     let there : IsSomeAnd (state_named saves.tree c.args.node) (λ u. u.path ≡ job.route.path.rows.items) = subst (λ (r : Route). IsSomeAnd (state_named saves.tree c.args.node) (λ u. u.path ≡ r.path.rows.items)) (sym e.route) (node_of c) in
     let old : Asked = record { seen = i.core.seen; saves = saves; at = i.at; requests = i.queue.requests; limit = i.limit; jobs = i.jobs; taken = i.taken } in
     rw (← c.self.view_is)
-    (leads_guessed old c.ask_job.new.queue.requests c.insert_reserved.new.self c.fill_all.new.self c.args.number job c.self.invariant e.free many base (has_of c (IsTaken i.taken) c.self.invariant.are.saved) (filled_of c)
+    (leads_guessed old c.ask_job.new.queue.requests c.insert_reserved.new.self c.fill_all.new.self c.args.number job c.self.invariant.0 e.free many base (has_of c (IsTaken i.taken) c.self.invariant.0.are.saved) (filled_of c)
     (starts_here saves c.args.node job.start job.route base there told) (list_of c) (updates_of c))

@@ -1,4 +1,4 @@
-use Rattle.std.proofs.Common.{◌≡◌, ◌++◌, ◌∷◌, ◌∙◌, ◌+◌, ◌-◌, [], ℕ, List, Some, ap, arith, length, max, refl, subst, sym}
+use Rattle.std.proofs.Common.{◌≡◌, ◌++◌, ◌∷◌, ◌∙◌, ◌+◌, ◌-◌, [], ℕ, Bool, List, Some, ap, arith, length, max, refl, subst, sym}
 use Rattle.std.specs.Prelude.{◌||◌, IsSomeAnd}
 use Rattle.roll_frame.specs.Core.{Core, cost}
 use Rattle.roll_frame.specs.declared.entry.Entry.{Entry}
@@ -13,7 +13,7 @@ use Rattle.roll_tree.specs.SavedStates.{Saved, state_named}
 use Rattle.roll_session.specs.Saves.{Standing}
 use Rattle.roll_session.specs.Standing.{rows_from}
 use Rattle.roll_requests.specs.Asked.{Asked, StartsIn}
-use Rattle.roll_requests.specs.Planned.{IsRoom}
+use Rattle.roll_requests.specs.Planned.{IsRoom, Room}
 use Rattle.roll_requests.specs.Requests.{last_or, roll_requests}
 use Rattle.roll_requests.specs.declared.request.Request.{Request}
 use Rattle.roll_requests.specs.Slotted.{is_among, is_taken, AreOwn}
@@ -28,12 +28,15 @@ pub plan_roll-requires-clause-roll : goal.plan_roll-requires-clause-roll
 plan_roll-requires-clause-roll c = c.requires
 
 pub plan_roll-requires-clause-taken : goal.plan_roll-requires-clause-taken
-plan_roll-requires-clause-taken c = c.self.invariant.are
+plan_roll-requires-clause-taken c = c.self.invariant.0.are
+
+pub plan_roll-requires-clause-limit : goal.plan_roll-requires-clause-limit
+plan_roll-requires-clause-limit c = c.self.invariant.1.slots
 
 pub invariant_of-self : goal.invariant_of-self
 invariant_of-self c =
     let i = c.self.inside in
-    slotted_told i.core.saves c.plan_roll.new.core.saves i.jobs i.at i.taken c.plan_roll.ensures.hardly.saves c.self.invariant
+    (slotted_told i.core.saves c.plan_roll.new.core.saves i.jobs i.at i.taken c.plan_roll.ensures.hardly.saves c.self.invariant.0, c.self.invariant.1)
 
 pub returns-in_err-plan-clause-leads : goal.returns-in_err-plan-clause-leads
 returns-in_err-plan-clause-leads c =
@@ -48,25 +51,29 @@ pub ask_roll-self-inside-requires-clause-going : goal.ask_roll-self-inside-requi
 ask_roll-self-inside-requires-clause-going c = c.in_ok-plan.ensures.can.going
 
 pub ask_roll-self-inside-requires-clause-many : goal.ask_roll-self-inside-requires-clause-many
-ask_roll-self-inside-requires-clause-many c = rw c.deref.ensures.value c.in_ok-plan.ensures.many
+ask_roll-self-inside-requires-clause-many c = rw c.deref.ensures.0 c.in_ok-plan.ensures.many
 
 pub ask_roll-self-inside-requires-clause-room : goal.ask_roll-self-inside-requires-clause-room
-ask_roll-self-inside-requires-clause-room c = rw c.deref.ensures.value c.in_ok-plan.ensures.space
+ask_roll-self-inside-requires-clause-room c = rw c.deref.ensures.0 c.in_ok-plan.ensures.space
 
 pub fill_all-requires : goal.fill_all-requires
-fill_all-requires c = rw c.deref-2.ensures.value c.in_ok-plan.ensures.room.within
+fill_all-requires c = rw c.deref-2.ensures.0 c.in_ok-plan.ensures.room.within
 
 pub enter-requires-clause-can : goal.enter-requires-clause-can
 enter-requires-clause-can c = c.in_ok-plan.ensures.can
 
 pub enter-requires-clause-all : goal.enter-requires-clause-all
-enter-requires-clause-all c = c.in_ok-plan.ensures.many
+enter-requires-clause-all c = rw c.deref-3.ensures.0 c.in_ok-plan.ensures.many
 
 pub enter-requires-clause-room : goal.enter-requires-clause-room
 enter-requires-clause-room c = c.in_ok-plan.ensures.reserved
 
+-- the slots that are held, and those of the roll
+abbrev room_of : (c : goal.After-laws-2) → Room
+room_of c = record { held = c.plan_roll.new.held; slots = c.in_ok-plan.plan.slots.items }
+
 -- what the session says of the roll
-done_of : (c : goal.After-laws-2) → IsDone c.plan_roll.new.core c.enter.new.self c.args.call c.in_ok-plan.plan.way c.in_ok-plan.plan.room c.self.inside.limit c.self.inside.jobs
+done_of : (c : goal.After-laws-2) → IsDone c.plan_roll.new.core c.enter.new.self c.args.call c.in_ok-plan.plan.way (room_of c) c.self.inside.limit c.self.inside.jobs
 done_of c =
     let e = c.in_ok-plan.ensures in
     record {
@@ -77,36 +84,38 @@ done_of c =
       before = c.laws.ensures.inputs;
       after = c.laws-2.ensures.inputs;
       core = ap (λ (s : Seen). s.core) c.enter.ensures.entered;
-      keeps = c.enter.ensures.keeps;
+      keeps = rw c.deref-3.ensures.0 at c.enter.ensures.keeps;
     }
 
 -- the state that it starts from, and what is asked
 asked_of : (c : goal.After-laws-2) → (u : Saved ℕ) × (state_named c.plan_roll.new.core.saves.tree c.in_ok-plan.plan.way.at ≡ Some u)
-    × ((c.ask_roll-self-inside.result ≡ last_or u.snapshot c.in_ok-plan.plan.room.slots.items)
-    × (c.ask_roll-self-inside.new.queue.requests ≡ c.plan_roll.new.queue.requests ++ roll_requests c.self.inside.at u.snapshot c.self.inside.taken c.in_ok-plan.plan.room.held (λ k. row_at c.plan_roll.new.core.saves.inputs.players (c.in_ok-plan.plan.way.frame + k)) c.in_ok-plan.plan.room.slots.items))
+    × ((c.ask_roll-self-inside.result ≡ last_or u.snapshot c.in_ok-plan.plan.slots.items)
+    × (c.ask_roll-self-inside.new.queue.requests ≡ c.plan_roll.new.queue.requests ++ roll_requests c.self.inside.at u.snapshot c.self.inside.taken c.plan_roll.new.held (λ k. row_at c.plan_roll.new.core.saves.inputs.players (c.in_ok-plan.plan.way.frame + k)) c.in_ok-plan.plan.slots.items))
 asked_of c =
     let P : Saved ℕ → Type 0 = λ u.
-    (c.ask_roll-self-inside.result ≡ last_or u.snapshot c.in_ok-plan.plan.room.slots.items)
-    × (c.ask_roll-self-inside.new.queue.requests ≡ c.plan_roll.new.queue.requests ++ roll_requests c.self.inside.at u.snapshot c.self.inside.taken c.in_ok-plan.plan.room.held (λ k. row_at c.plan_roll.new.core.saves.inputs.players (c.in_ok-plan.plan.way.frame + k)) c.in_ok-plan.plan.room.slots.items) in
-    some_is (state_named c.plan_roll.new.core.saves.tree c.in_ok-plan.plan.way.at) P (rw c.deref.ensures.value at c.ask_roll-self-inside.ensures)
+    (c.ask_roll-self-inside.result ≡ last_or u.snapshot c.in_ok-plan.plan.slots.items)
+    × (c.ask_roll-self-inside.new.queue.requests ≡ c.plan_roll.new.queue.requests ++ roll_requests c.self.inside.at u.snapshot c.self.inside.taken c.plan_roll.new.held (λ k. row_at c.plan_roll.new.core.saves.inputs.players (c.in_ok-plan.plan.way.frame + k)) c.in_ok-plan.plan.slots.items) in
+    some_is (state_named c.plan_roll.new.core.saves.tree c.in_ok-plan.plan.way.at) P (rw c.deref.ensures.0 at c.ask_roll-self-inside.ensures)
 
 -- the slots of the jobs' states are still their own
 own_of : (c : goal.After-laws-2) → AreOwn c.plan_roll.new.core.saves.tree.states c.self.inside.jobs
 own_of c =
     let i = c.self.inside in
-    (slotted_told i.core.saves c.plan_roll.new.core.saves i.jobs i.at i.taken c.plan_roll.ensures.hardly.saves c.self.invariant).own
+    (slotted_told i.core.saves c.plan_roll.new.core.saves i.jobs i.at i.taken c.plan_roll.ensures.hardly.saves c.self.invariant.0).own
 
 -- what is taken after it
-filled_of : (c : goal.After-laws-2) → (k : ℕ) → is_taken c.fill_all.new.self k ≡ (is_taken c.in_ok-plan.plan.room.held k || is_among c.in_ok-plan.plan.room.slots.items k)
-filled_of c = rw c.deref-2.ensures.value at c.fill_all.ensures.filled
+filled_of : (c : goal.After-laws-2) → (k : ℕ) → is_taken c.swap.new.x k ≡ (is_taken c.plan_roll.new.held k || is_among c.in_ok-plan.plan.slots.items k)
+filled_of c k = ap (λ (t : List Bool). is_taken t k) c.swap.ensures.x_after ∙ (rw c.deref-2.ensures.0 at c.fill_all.ensures.filled) k
 
 pub invariant_of-self-2 : goal.invariant_of-self-2
 invariant_of-self-2 c =
     let a = asked_of c in
-    let room = c.in_ok-plan.plan.room in
-    let filled = filled_of c in
-    done_taken c.plan_roll.new.core c.enter.new.self c.args.call c.in_ok-plan.plan.way room c.self.inside.limit c.self.inside.jobs (done_of c) c.fill_all.new.self c.ask_roll-self-inside.result a.0 (own_of c) a.1 a.2.0
-    (still_taken room.held c.fill_all.new.self room.slots.items filled) (now_taken room.held c.fill_all.new.self room.slots.items filled)
+    let room : Room = room_of c in
+    let filled = filled_of c in (
+      done_taken c.plan_roll.new.core c.enter.new.self c.args.call c.in_ok-plan.plan.way room c.self.inside.limit c.self.inside.jobs (done_of c) c.swap.new.x c.ask_roll-self-inside.result a.0 (own_of c) a.1 a.2.0
+          (still_taken room.held c.swap.new.x room.slots filled) (now_taken room.held c.swap.new.x room.slots filled),
+      c.self.invariant.1,
+    )
 
 pub returns-clause-allowed : goal.returns-clause-allowed
 returns-clause-allowed c =
@@ -139,20 +148,20 @@ returns-clause-rolls c =
     let mid = c.plan_roll.new.core in
     let e = c.in_ok-plan.ensures in
     let way = c.in_ok-plan.plan.way in
-    let room = c.in_ok-plan.plan.room in
+    let room : Room = room_of c in
     let a = asked_of c in
     let core : mid.seen.core ≡ i.core.seen.core = ap (λ (s : Seen). s.core) c.plan_roll.ensures.hardly.seen in
     let log = c.laws.ensures.log in
     let least : IsLeast mid.seen.core way.to = subst (λ (k : Core). IsLeast k way.to) (sym log.core) (least_of mid.seen.settings (game_of still mid.seen) mid.seen.log log.log way.to) in
-    let many : length room.slots.items ≡ cost i.core.seen.core way.to = omega (arith, e.many, e.from) in
+    let many : length room.slots ≡ cost i.core.seen.core way.to = omega (arith, e.many, e.from) in
     let room_is = subst (λ (states : List (Saved ℕ)). IsRoom i.limit states i.jobs room) (ap (λ (s : Standing ℕ). s.tree.states) c.plan_roll.ensures.hardly.saves) e.room in
     let held = are_held mid.saves.tree.states i.jobs room.held e.room.held in
     let row : ℕ → List Cell = λ k. row_at mid.saves.inputs.players (way.frame + k) in
-    let list = a.2.1 ∙ ap (λ (l : List Request). l ++ roll_requests i.at a.0.snapshot i.taken room.held row room.slots.items) c.plan_roll.ensures.requests in
-    let added = roll_adds i.limit i.at a.0.snapshot i.taken room.held row room.slots.items (cost i.core.seen.core way.to) i.jobs i.queue.requests c.ask_roll-self-inside.new.queue.requests e.room.free.below many
+    let list = a.2.1 ∙ ap (λ (l : List Request). l ++ roll_requests i.at a.0.snapshot i.taken room.held row room.slots) c.plan_roll.ensures.requests in
+    let added = roll_adds i.limit i.at a.0.snapshot i.taken room.held row room.slots (cost i.core.seen.core way.to) i.jobs i.queue.requests c.ask_roll-self-inside.new.queue.requests e.room.free.below many
     (λ n job there.
     let off = start_outside mid c.enter.new.self c.args.call way room i.limit i.jobs (done_of c) (own_of c) a.0 a.1 n job there in
-    roll_apart job room.held (held.out n job there) i.limit i.at a.0.snapshot i.taken row room.slots.items off e.room.free)
+    roll_apart job room.held (held.out n job there) i.limit i.at a.0.snapshot i.taken row room.slots off e.room.free)
     list in
     rw (← c.self.view_is)
     (record {
@@ -164,7 +173,7 @@ returns-clause-rolls c =
       start = a.0.snapshot;
       starts = subst (λ (s : Standing ℕ). StartsIn s way.frame a.0.snapshot) c.plan_roll.ensures.hardly.saves (starts_of c);
       loads = added.1;
-      taken = needed_now i.core.saves.tree.states i.jobs i.limit (cost i.core.seen.core way.to) room.held c.fill_all.new.self room.slots.items room_is.held room_is.least many (filled_of c);
+      taken = needed_now i.core.saves.tree.states i.jobs i.limit (cost i.core.seen.core way.to) room.held c.swap.new.x room.slots room_is.held room_is.least many (filled_of c);
     })
 
 pub returns-clause-leads : goal.returns-clause-leads
@@ -177,6 +186,6 @@ returns-clause-leads c =
     let here : Asked = record { seen = mid.seen; saves = mid.saves; at = i.at; requests = c.plan_roll.new.queue.requests; limit = i.limit; jobs = i.jobs; taken = i.taken } in
     rw (← c.self.view_is)
     (λ past l.
-    done_leads mid c.enter.new.self c.args.call c.in_ok-plan.plan.way c.in_ok-plan.plan.room i.limit i.jobs (done_of c) i.taken c.fill_all.new.self i.at c.ask_roll-self-inside.result a.0 c.plan_roll.new.queue.requests c.ask_roll-self-inside.new.queue.requests
-    (slotted_told i.core.saves mid.saves i.jobs i.at i.taken hardly.saves c.self.invariant).are (filled_of c) a.1 a.2.0 a.2.1 past
+    done_leads mid c.enter.new.self c.args.call c.in_ok-plan.plan.way (room_of c) i.limit i.jobs (done_of c) i.taken c.swap.new.x i.at c.ask_roll-self-inside.result a.0 c.plan_roll.new.queue.requests c.ask_roll-self-inside.new.queue.requests
+    (slotted_told i.core.saves mid.saves i.jobs i.at i.taken hardly.saves c.self.invariant.0).are (filled_of c) a.1 a.2.0 a.2.1 past
     (leads_looked old here hardly.saves refl c.plan_roll.ensures.requests refl refl (ap (λ (s : Seen). s.core.shown) hardly.seen) past l))

@@ -8,4 +8,4 @@ returns-clause-leads c =
     let i = c.self.inside in
     let old : Asked = record { seen = i.core.seen; saves = i.core.saves; at = i.at; requests = i.queue.requests; limit = i.limit; jobs = i.jobs; taken = i.taken } in
     rw (← c.self.view_is)
-    (leads_same old (record old { limit = c.args.slots }) refl refl (λ slot. refl) refl (λ step opening slots h. h))
+    (leads_same old (record old { limit = c.min-self-inside.result }) refl refl (λ slot. refl) refl (λ step opening slots h. h))

@@ -11,12 +11,14 @@ use Rattle.roll_requests.proofs.elsewhere.Elsewhere.take.Goals as goal
 pub invariant_of-self : goal.invariant_of-self
 invariant_of-self c =
     let i = c.self.inside in
-    let now = c.self.invariant in
-    record {
-      are = record { saved = pass_all i.core.saves c.take-outcome.new.self.saves c.take-outcome.ensures.keeps (is_taken i.taken) now.are.saved; out = now.are.out };
-      own = own_all i.core.saves c.take-outcome.new.self.saves i.jobs c.take-outcome.ensures.keeps now.own;
-      current = now.current;
-    }
+    let now = c.self.invariant.0 in (
+      record {
+        are = record { saved = pass_all i.core.saves c.take-outcome.new.self.saves c.take-outcome.ensures.keeps (is_taken i.taken) now.are.saved; out = now.are.out };
+        own = own_all i.core.saves c.take-outcome.new.self.saves i.jobs c.take-outcome.ensures.keeps now.own;
+        current = now.current;
+      },
+      c.self.invariant.1,
+    )
 
 pub returns-clause-leads : goal.returns-clause-leads
 returns-clause-leads c =

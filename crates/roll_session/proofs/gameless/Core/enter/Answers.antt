@@ -27,9 +27,9 @@ settle-requires g c =
     let old = c.self.inside.saves in
     let going = any_room old c.args.way q.going in
     let e = c.add_rolled.ensures in
-    let all : length c.args.states.items ≡ c.args.way.to - old.inputs.settled - deepest_toward old c.args.way.to = omega (arith, c.requires.all, going.deepest) in
+    let all : length c.args.states.now ≡ c.args.way.to - old.inputs.settled - deepest_toward old c.args.way.to = omega (arith, c.requires.all, going.deepest) in
     rolled_settles c.self.invariant.0 c.args.call c.args.way.to q.to q.allowed.accepted c.add_rolled.new.saves c.finish_roll.new.self
-    (record { inputs = e.inputs; paths = subst (GrowsBy old c.add_rolled.new.saves c.args.way.to) all e.paths; values = nil_values old c.args.way going c.args.states.items c.add_rolled.new.saves (length c.args.states.items) e.kept })
+    (record { inputs = e.inputs; paths = subst (GrowsBy old c.add_rolled.new.saves c.args.way.to) all e.paths; values = nil_values old c.args.way going c.args.states.now c.add_rolled.new.saves (length c.args.states.now) e.kept })
     c.finish_roll.ensures.inputs c.finish_roll.ensures.tree
 
 pub invariant_of-self : goal.invariant_of-self
@@ -38,11 +38,11 @@ invariant_of-self g c =
     let old = c.self.inside.saves in
     let going = any_room old c.args.way q.can.going in
     let e = c.add_rolled.ensures in
-    let all : length c.args.states.items ≡ c.args.way.to - old.inputs.settled - deepest_toward old c.args.way.to = omega (arith, c.requires.all, going.deepest) in (
+    let all : length c.args.states.now ≡ c.args.way.to - old.inputs.settled - deepest_toward old c.args.way.to = omega (arith, c.requires.all, going.deepest) in (
       rw c.add_call.ensures.entries
           (bare_rolled c.self.inside.settings c.self.inside.log.entries c.settle.new.self c.plan.new.planner c.args.call c.args.way.to q.can.to
           (rolled_next c.self.invariant.0 c.args.call c.args.way.to q.can.to q.can.allowed.accepted c.add_rolled.new.saves c.finish_roll.new.self c.settle.new.self c.plan.new.planner 0
-          (record { inputs = e.inputs; paths = subst (GrowsBy old c.add_rolled.new.saves c.args.way.to) all e.paths; values = nil_values old c.args.way going c.args.states.items c.add_rolled.new.saves (length c.args.states.items) e.kept })
+          (record { inputs = e.inputs; paths = subst (GrowsBy old c.add_rolled.new.saves c.args.way.to) all e.paths; values = nil_values old c.args.way going c.args.states.now c.add_rolled.new.saves (length c.args.states.now) e.kept })
           c.finish_roll.ensures.inputs c.finish_roll.ensures.tree (record { inputs = c.settle.ensures.inputs; states = c.settle.ensures.states })
           (λ x h. nil_later old c.args.way going x h c.args.way.to going.within) going.base c.plan.ensures)),
       room_next c.finish_roll.new.self c.self.invariant.1 q.room c.add_call.ensures.room c.spend.ensures.promised c.spend.ensures.there (rw (c.finish_roll.ensures.inputs, e.inputs) (stepped_frame old.inputs (entry_of c.args.call))) (c.finish_roll.ensures.room ∙ e.room) c.settle.ensures.inputs c.settle.ensures.room,
@@ -59,5 +59,5 @@ returns-clause-keeps g c =
     let old = c.self.inside.saves in
     let e = c.add_rolled.ensures in
     rw (← c.self.view_is)
-    (keeps_given old c.args.way (any_room old c.args.way q.going) c.args.states.items c.add_rolled.new.saves (length c.args.states.items) e.kept
+    (keeps_given old c.args.way (any_room old c.args.way q.going) c.args.states.now c.add_rolled.new.saves (length c.args.states.now) e.kept
     c.finish_roll.new.self c.settle.new.self (entry_of c.args.call) e.inputs c.finish_roll.ensures.inputs c.finish_roll.ensures.tree c.settle.ensures.inputs c.settle.ensures.states refl)
