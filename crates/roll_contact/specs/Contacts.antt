@@ -42,6 +42,8 @@ opened_contact = record {
   after = 0;
   expected = 0;
   refused = 0;
+  dropped = 0;
+  bye = 0;
 }
 
 -- what is known of a machine
@@ -72,6 +74,14 @@ heard now contact = record contact {
 -- one that it sealed was refused
 abbrev pub refused : Contact → Contact
 refused contact = record contact { refused = one_more contact.refused }
+
+-- a play of it called this machine gone
+abbrev pub called_gone : Contact → Contact
+called_gone contact = record contact { dropped = one_more contact.dropped }
+
+-- its bye was heard
+abbrev pub bye_heard : (why : ℕ) → ℕ → Contact → Contact
+bye_heard why now contact = record (heard now contact) { bye = why }
 
 -- ---- hellos
 
@@ -124,7 +134,8 @@ same_opening own mismatch hello now contact =
 abbrev pub other_opening : Opening → Option Field → Hello → ℕ → Contact → Contact
 other_opening own mismatch hello now contact =
     if hello.echo == own.draw
-    then (if contact.confirmed then record contact { restarted = hello.draw }
+    then (if contact.confirmed
+    then record contact { restarted = if hello.draw == 0 then contact.restarted else hello.draw }
     else greeted own mismatch hello now (heard now contact))
     else record contact {
       owes_hello = contact.owes_hello || not (hello.draw == contact.restarted);

@@ -1,5 +1,5 @@
 -- Laws of connections.
-use Rattle.std.specs.Prelude.{◌≡◌, ◌≢◌, ◌≤◌, ◌<◌, ◌^◌, ℕ, List, [], ◌∷◌, length, true, false, Option, Some, None, All, IsSome, nat_lt, ◌-◌, pos}
+use Rattle.std.specs.Prelude.{◌≡◌, ◌≢◌, ◌≤◌, ◌<◌, ◌^◌, ℕ, List, [], ◌∷◌, length, true, false, Option, Some, None, All, IsSome, nat_lt, ◌-◌}
 use Rattle.roll_wire.specs.declared.datagram.Clocks.{Clocks}
 use Rattle.roll_wire.specs.declared.datagram.Hello.{Hello}
 use Rattle.roll_contact.specs.Contacts.{after_hello, after_play, is_before, is_newer, is_playing, is_silent, refused}
@@ -7,10 +7,7 @@ use Rattle.roll_contact.specs.Keys.{block_of}
 use Rattle.roll_contact.specs.Seals.{HasNumber, sealed, tag, unsealed}
 use Rattle.roll_contact.specs.declared.contact.Contact.{Contact}
 use Rattle.roll_contact.specs.declared.contact.Opening.{Opening}
-use Rattle.roll_contact.specs.declared.contact.TheConstants.{BEHIND_LIMIT, CLOCKS_EVERY, CLOCKS_IN_PATIENCE, HELLO_AT, HELLO_EVERY, PATIENCE_PARTS, ROUND_TRIP_LIMIT, UNANSWERED}
 use Rattle.roll_contact.specs.declared.key.Key.{Key}
-use Rattle.roll_contact.specs.declared.key.TheConstants.{BLOCK}
-use Rattle.roll_contact.specs.declared.seal.TheConstants.{INNER, OUTER}
 use Rattle.roll_contact.specs.declared.terms.Field.{Field}
 
 -- a draw is believed only by a hello that says this opening's own
@@ -92,20 +89,6 @@ pub record HeardIsOld : Type 0 where
   pub lasts : (own : Opening) (play : Coming) (came : List Came) (contact : Contact)
       → play.number < 2 ^ 32 - 1
       → is_newer (after_all own (Turn play ∷ came) contact) play.number ≡ false
-
--- the numbers that other definitions name
-pub record PlainNumbers : Type 0 where
-  pub unanswered : UNANSWERED ≡ 10
-  pub clocks_every : CLOCKS_EVERY ≡ 16
-  pub clocks_in_patience : CLOCKS_IN_PATIENCE ≡ 16
-  pub patience_parts : PATIENCE_PARTS ≡ 4
-  pub hello_every : HELLO_EVERY ≡ 16
-  pub hello_at : HELLO_AT ≡ 8
-  pub round_trip_limit : ROUND_TRIP_LIMIT ≡ 60000
-  pub behind_limit : BEHIND_LIMIT ≡ pos 1048576
-  pub block : BLOCK ≡ 64
-  pub inner : INNER ≡ 54
-  pub outer : OUTER ≡ 92
 
 abbrev pub IsKey : Key → Type 0
 IsKey key = (key.number < 2 ^ 64) × ((key.from < 2 ^ 64) × (key.to < 2 ^ 64))

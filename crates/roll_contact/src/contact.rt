@@ -1,7 +1,7 @@
 //! What this end knows of another.
 ghost use Rattle.std.specs.Prelude.{◌≡◌};
 ghost use Rattle.roll_contact.specs.Clocks.{difference};
-ghost use Rattle.roll_contact.specs.Contacts.{after_clocks, after_hello, after_play, answered_later, are_clocks_due, are_newer, behind_of, believing, clocks_for, confirming, counted, frame_after, greeted, heard, heard_later, heard_too, hello_echo, hello_sent, hushed, is_before, is_fresh, is_hushed, is_one_opening, is_playing, is_silent, is_unanswered, least_patience, measured, meeting, opened_contact, other_opening, passing, play_sent, refused, says_hello, silence, told, unanswered_for, wants_clocks};
+ghost use Rattle.roll_contact.specs.Contacts.{after_clocks, after_hello, after_play, answered_later, are_clocks_due, are_newer, behind_of, believing, bye_heard, called_gone, clocks_for, confirming, counted, frame_after, greeted, heard, heard_later, heard_too, hello_echo, hello_sent, hushed, is_before, is_fresh, is_hushed, is_one_opening, is_playing, is_silent, is_unanswered, least_patience, measured, meeting, opened_contact, other_opening, passing, play_sent, refused, says_hello, silence, told, unanswered_for, wants_clocks};
 
 use crate::clock::since;
 use crate::terms::{CARRIES, Field};
@@ -116,6 +116,10 @@ pub struct Contact {
     pub expected: u32,
     /// How many packets that it sealed were refused.
     pub refused: u32,
+    /// How many plays of it called this machine gone.
+    pub dropped: u32,
+    /// Why it left, as its bye said; 0 before one was heard.
+    pub bye: u8,
 }
 
 impl Contact {
@@ -149,6 +153,8 @@ impl Contact {
             after: 0,
             expected: 0,
             refused: 0,
+            dropped: 0,
+            bye: 0,
         }
     }
 
@@ -177,7 +183,9 @@ impl Contact {
         if hello.echo != own.draw {
             self.owes_hello |= hello.draw != self.restarted;
         } else if self.confirmed {
-            self.restarted = hello.draw;
+            if hello.draw != 0 {
+                self.restarted = hello.draw;
+            }
         } else {
             self.heard(now);
             self.judge(own, mismatch, hello, now);
@@ -487,6 +495,21 @@ impl Contact {
         ensures { self.new ≡ refused self.old }
     {
         self.refused = self.refused.saturating_add(1);
+    }
+
+    /// A play of it called this machine gone.
+    pub fn call_gone(&mut self)
+        ensures { self.new ≡ called_gone self.old }
+    {
+        self.dropped = self.dropped.saturating_add(1);
+    }
+
+    /// Its bye was heard, which says why it left.
+    pub fn heard_bye(&mut self, why: u8, now: u32)
+        ensures { self.new ≡ bye_heard why now self.old }
+    {
+        self.heard(now);
+        self.bye = why;
     }
 }
 

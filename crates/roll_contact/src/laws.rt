@@ -1,5 +1,11 @@
 //! Laws of connections, each the contract of a function that makes no call.
-ghost use Rattle.roll_contact.specs.Laws.{CopiesEndNoSilence, HeardIsOld, KeysDiffer, OnlyAnEchoIsBelieved, PlainNumbers, RefusalsEndNoSilence};
+ghost use Rattle.std.specs.Prelude.{◌≡◌, ◌^◌, pos};
+ghost use Rattle.roll_contact.specs.Laws.{CopiesEndNoSilence, HeardIsOld, KeysDiffer, OnlyAnEchoIsBelieved, RefusalsEndNoSilence};
+ghost use Rattle.roll_contact.specs.declared.clock.TheConstants.{AHEAD};
+ghost use Rattle.roll_contact.specs.declared.contact.TheConstants.{BEHIND_LIMIT, CLOCKS_EVERY, CLOCKS_IN_PATIENCE, HALF, HELLO_AT, HELLO_EVERY, PATIENCE_PARTS, ROUND_TRIP_LIMIT, UNANSWERED};
+ghost use Rattle.roll_contact.specs.declared.key.TheConstants.{BLOCK};
+ghost use Rattle.roll_contact.specs.declared.seal.TheConstants.{INNER, OUTER};
+ghost use Rattle.roll_contact.specs.declared.terms.TheConstants.{CARRIES, LASTS};
 
 /// A draw is believed only by a hello that says this opening's own draw, and no other takes its place.
 pub fn only_an_echo_is_believed()
@@ -21,9 +27,23 @@ pub fn heard_is_old()
     ensures { HeardIsOld }
 {}
 
-/// The numbers that the other clauses name.
-pub fn plain_numbers()
-    ensures { PlainNumbers }
+/// The numbers that clauses cite by name.
+pub fn limits_are()
+    ensures unanswered { UNANSWERED ≡ 10 }
+    ensures clocks_every { CLOCKS_EVERY ≡ 16 }
+    ensures clocks_in_patience { CLOCKS_IN_PATIENCE ≡ 16 }
+    ensures patience_parts { PATIENCE_PARTS ≡ 4 }
+    ensures hello_every { HELLO_EVERY ≡ 16 }
+    ensures hello_at { HELLO_AT ≡ 8 }
+    ensures round_trip { ROUND_TRIP_LIMIT ≡ 60000 }
+    ensures behind { BEHIND_LIMIT ≡ pos 1048576 }
+    ensures half { HALF ≡ 2 ^ 31 }
+    ensures ahead { AHEAD ≡ 2 ^ 31 }
+    ensures block { BLOCK ≡ 64 }
+    ensures inner { INNER ≡ 54 }
+    ensures outer { OUTER ≡ 92 }
+    ensures carries { CARRIES ≡ 1 }
+    ensures lasts { LASTS ≡ 2 }
 {}
 
 /// Openings whose draws differ seal by keys that differ. A datagram that was sealed by one key is opened by another only if both

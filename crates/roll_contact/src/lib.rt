@@ -13,7 +13,7 @@ pub use clock::{Clock, since};
 pub use contact::{Contact, Opening, Stage, TheirClocks};
 pub use key::Key;
 pub use laws::{
-    copies_end_no_silence, heard_is_old, keys_differ, only_an_echo_is_believed, plain_numbers,
+    copies_end_no_silence, heard_is_old, keys_differ, limits_are, only_an_echo_is_believed,
     refusals_end_no_silence,
 };
 pub use terms::{Field, Terms};

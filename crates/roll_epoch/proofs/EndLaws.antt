@@ -1,5 +1,5 @@
 -- There is one end, and all find it who know the same of the rows before it.
-use Rattle.std.proofs.Common.{◌≡◌, ℕ, ◌+◌, ◌<◌, ◌≤◌, List, Bool, true, false, leb, refl, sym, ap, subst, ◌∙◌, arith, inl, inr, Option, Some, None}
+use Rattle.std.proofs.Common.{◌≡◌, ℕ, ◌+◌, ◌<◌, ◌≤◌, Bool, true, false, leb, refl, sym, ap, subst, ◌∙◌, arith, inl, inr, Option, Some, None}
 use Rattle.std.specs.Prelude.{IfNone, IfSome, ◌⊎◌, ◌&&◌, nat_lt, if◌then◌else◌, slice_index_or}
 use Rattle.std.proofs.lemmas.Bool.{and_from, and_parts, cases_lt, leb-true, leb-false, lt-ltb, ltb-true}
 use Rattle.roll_mesh.specs.declared.limits.TheConstants.{PLAYER_LIMIT}
@@ -43,31 +43,31 @@ in_is end left marked m e l t =
     ∙ ap (λ (b : Bool). if b then Some m else None)
     (and_from (nat_lt m.frame end) (is_there left m.frame) (lt-ltb m.frame end l) t)
 
-fine : (terms : Terms) (giver : ℕ) (welcome : Bool) (marked : Option Marked) (m : Marked)
-    → unless_void terms giver welcome marked ≡ Some m
-    → (marked ≡ Some m) × (is_void m.mark giver terms welcome ≡ false)
-fine terms giver welcome None m e = absurd cc
-fine terms giver welcome (Some n) m e = go (is_void n.mark giver terms welcome) refl e
+fine : (terms : Terms) (giver : ℕ) (marked : Option Marked) (m : Marked)
+    → unless_void terms giver marked ≡ Some m
+    → (marked ≡ Some m) × (is_void m.mark giver terms ≡ false)
+fine terms giver None m e = absurd cc
+fine terms giver (Some n) m e = go (is_void n.mark giver terms) refl e
   where
-    go : (b : Bool) → is_void n.mark giver terms welcome ≡ b → (if b then None else Some n) ≡ Some m
-        → (Some n ≡ Some m) × (is_void m.mark giver terms welcome ≡ false)
+    go : (b : Bool) → is_void n.mark giver terms ≡ b → (if b then None else Some n) ≡ Some m
+        → (Some n ≡ Some m) × (is_void m.mark giver terms ≡ false)
     go true t e = absurd cc
     go false t e =
-        subst (λ (x : Marked). (Some n ≡ Some x) × (is_void x.mark giver terms welcome ≡ false)) (some_is n m e)
+        subst (λ (x : Marked). (Some n ≡ Some x) × (is_void x.mark giver terms ≡ false)) (some_is n m e)
         (refl, t)
 
-unvoid : (terms : Terms) (giver : ℕ) (welcome : Bool) (marked : Option Marked) (m : Marked) → marked ≡ Some m
-    → is_void m.mark giver terms welcome ≡ false → unless_void terms giver welcome marked ≡ Some m
-unvoid terms giver welcome marked m e t =
-    ap (unless_void terms giver welcome) e ∙ ap (λ (b : Bool). if b then None else Some m) t
+unvoid : (terms : Terms) (giver : ℕ) (marked : Option Marked) (m : Marked) → marked ≡ Some m
+    → is_void m.mark giver terms ≡ false → unless_void terms giver marked ≡ Some m
+unvoid terms giver marked m e t =
+    ap (unless_void terms giver) e ∙ ap (λ (b : Bool). if b then None else Some m) t
 
 record Counts (told : Told) (settled p : ℕ) (m : Marked) : Type 0 where
   inside : IsIn settled (slice_index_or told.left p None) (slice_index_or told.first p None) m
-  is_fine : is_void m.mark (owner_of told.terms.owners p) told.terms (slice_index_or told.welcome p false) ≡ false
+  is_fine : is_void m.mark (owner_of told.terms.owners p) told.terms ≡ false
 
 counts : (told : Told) (settled p : ℕ) (m : Marked) → counting told settled p ≡ Some m → Counts told settled p m
 counts told settled p m e =
-    let f = fine told.terms (owner_of told.terms.owners p) (slice_index_or told.welcome p false)
+    let f = fine told.terms (owner_of told.terms.owners p)
     (mark_in told settled p) m e in
     record {
       inside = is_in settled (slice_index_or told.left p None) (slice_index_or told.first p None) m f.0;
@@ -75,16 +75,15 @@ counts told settled p m e =
     }
 
 counted : (told : Told) (settled p : ℕ) (m : Marked) → mark_in told settled p ≡ Some m
-    → is_void m.mark (owner_of told.terms.owners p) told.terms (slice_index_or told.welcome p false) ≡ false
+    → is_void m.mark (owner_of told.terms.owners p) told.terms ≡ false
     → counting told settled p ≡ Some m
 counted told settled p m e t =
-    unvoid told.terms (owner_of told.terms.owners p) (slice_index_or told.welcome p false) (mark_in told settled p) m e t
+    unvoid told.terms (owner_of told.terms.owners p) (mark_in told settled p) m e t
 
 -- a mark in rows of which two know the same counts for both
 alike_back : (one other : Told) (end : ℕ) → AreAlike one other end → AreAlike other one end
 alike_back one other end a = record {
   terms = sym a.terms;
-  welcome = sym a.welcome;
   rows = λ p l. sym (a.rows p l);
 }
 
@@ -99,9 +98,7 @@ moved one other end settled more p m a l below far e =
     let there : mark_in other more p ≡ Some m =
     in_is more (slice_index_or other.left p None) (slice_index_or other.first p None) m theirs.there far theirs.stays in
     counted other more p m there
-    (subst (λ (t : Terms). is_void m.mark (owner_of t.owners p) t (slice_index_or other.welcome p false) ≡ false) a.terms
-    (subst (λ (w : List Bool). is_void m.mark (owner_of one.terms.owners p) one.terms (slice_index_or w p false) ≡ false)
-    a.welcome c.is_fine))
+    (subst (λ (t : Terms). is_void m.mark (owner_of t.owners p) t ≡ false) a.terms c.is_fine)
 
 -- ---- the laws
 
@@ -130,7 +127,7 @@ of_one_past_one_end one other end settled more e a ends reach is =
 pub ends_stay : EndsStay
 ends_stay told settled more e far is =
     of_one_past_one_end told told settled settled more e
-    (record { terms = refl; welcome = refl; rows = λ p l. refl })
+    (record { terms = refl; rows = λ p l. refl })
     (omega (arith, is.frame, (counts told settled e.player is.marked is.counts).inside.below)) far is
 
 pub ends_are_one : EndsAreOne

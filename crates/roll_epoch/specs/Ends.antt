@@ -1,9 +1,10 @@
 -- Which marks count in an epoch, and where it ends.
-use Rattle.std.specs.Prelude.{◌≡◌, ◌⊎◌, ℕ, ◌+◌, ◌<◌, ◌≤◌, ◌==◌, List, Bool, true, false, ◌&&◌, ◌||◌, not, nat_le, nat_lt, is_none, is_some, Option, Some, None, if◌then◌else◌, slice_index, slice_index_or, slice_set}
+use Rattle.std.specs.Prelude.{◌≡◌, ◌⊎◌, ℕ, ◌+◌, ◌<◌, ◌≤◌, ◌==◌, List, Bool, true, ◌&&◌, ◌||◌, not, nat_le, nat_lt, is_none, Option, Some, None, if◌then◌else◌, slice_index, slice_index_or, slice_set}
 use Rattle.std.specs.List.{list_all, range_with_len}
 use Rattle.roll_mesh.specs.declared.limits.TheConstants.{PLAYER_LIMIT}
 use Rattle.roll_wire.specs.declared.datagram.Mark.{Mark}
 use Rattle.roll_wire.specs.declared.datagram.Marked.{Marked}
+use Rattle.roll_epoch.specs.Inputs.{are_alike}
 use Rattle.roll_epoch.specs.declared.limits.TheConstants.{DELAY_MOST, THRESHOLD_MOST}
 use Rattle.roll_epoch.specs.declared.marks.Ending.{Ending}
 use Rattle.roll_epoch.specs.declared.marks.Marks.{Marks}
@@ -28,29 +29,23 @@ unfoldable pub are_delays : List (Option ℕ) → ℕ → Terms → Bool
 are_delays delays giver terms =
     list_all (is_delay_at delays giver terms) (range_with_len 0 PLAYER_LIMIT)
 
--- a mark is void if its threshold or a delay is out of range, if it gives a delay to a player that its giver doesn't own, or if
--- somebody is to come who isn't welcome
-abbrev pub is_void : Mark → (giver : ℕ) → Terms → Bool → Bool
-is_void mark giver terms is_welcome =
+-- a mark is void if its threshold or a delay is out of range, if it gives a delay to a player that its giver doesn't own, or if words of
+-- one input have other delays than each other by it
+abbrev pub is_void : Mark → (giver : ℕ) → Terms → Bool
+is_void mark giver terms =
     nat_lt THRESHOLD_MOST mark.threshold
-    || (not (are_delays mark.delays giver terms) || (is_some mark.newcomer && not is_welcome))
+    || (not (are_delays mark.delays giver terms) || not (are_alike mark.delays terms))
 
 -- ---- what is known
 
--- of each player: its first mark, at how many words it left, and whether who is to come by its mark is welcome
+-- of each player: its first mark, and at how many words it left
 pub record Told : Type 0 where
   pub first : List (Option Marked)
   pub left : List (Option ℕ)
-  pub welcome : List Bool
   pub terms : Terms
 
-abbrev pub told : Marks → Terms → List Bool → List (Option ℕ) → Told
-told marks terms welcome left = record {
-  first = marks.first;
-  left = left;
-  welcome = welcome;
-  terms = terms;
-}
+abbrev pub told : Marks → Terms → List (Option ℕ) → Told
+told marks terms left = record { first = marks.first; left = left; terms = terms }
 
 -- a player's first mark stays
 abbrev pub noted : List (Option Marked) → ℕ → Marked → List (Option Marked)
@@ -72,16 +67,14 @@ abbrev pub mark_in : Told → (end : ℕ) → ℕ → Option Marked
 mark_in told end p =
     in_rows end (slice_index_or told.left p None) (slice_index_or told.first p None)
 
-abbrev pub unless_void : Terms → (giver : ℕ) → Bool → Option Marked → Option Marked
-unless_void terms giver is_welcome None = None
-unless_void terms giver is_welcome (Some m) =
-    if is_void m.mark giver terms is_welcome then None else Some m
+abbrev pub unless_void : Terms → (giver : ℕ) → Option Marked → Option Marked
+unless_void terms giver None = None
+unless_void terms giver (Some m) = if is_void m.mark giver terms then None else Some m
 
 -- the same, if it counts: if it isn't void
 abbrev pub counting : Told → (settled : ℕ) → ℕ → Option Marked
 counting told settled p =
-    unless_void told.terms (owner_of told.terms.owners p) (slice_index_or told.welcome p false)
-    (mark_in told settled p)
+    unless_void told.terms (owner_of told.terms.owners p) (mark_in told settled p)
 
 -- ---- the end
 

@@ -15,7 +15,6 @@ use Rattle.roll_epoch.specs.declared.terms.Terms.{Terms}
 -- two know the same of the rows before a frame: the same marks of words of players who hadn't left
 pub record AreAlike (one other : Told) (end : ℕ) : Type 0 where
   pub terms : one.terms ≡ other.terms
-  pub welcome : one.welcome ≡ other.welcome
   pub rows : (p : ℕ) → p < PLAYER_LIMIT → mark_in one end p ≡ mark_in other end p
 
 -- of what is known there is one end

@@ -2,7 +2,9 @@
 //! rules, which take no memory.
 #![tactic(auto)]
 
+mod faults;
 mod id;
+mod inputs;
 mod laws;
 mod limits;
 mod marks;
@@ -10,6 +12,7 @@ mod owners;
 mod seats;
 mod terms;
 
+pub use faults::{MarkFault, fault_of};
 pub use id::{hash_of, key_of};
 pub use laws::{
     ends_are_one, ends_stay, inputs_stay_whole, nobody_loses_a_player, of_one_past_one_end,

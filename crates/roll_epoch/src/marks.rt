@@ -3,6 +3,7 @@ ghost use Rattle.std.specs.Prelude.{◌≡◌, ℕ, ◌+◌, ◌<◌, ◌^◌, r
 ghost use Rattle.roll_mesh.specs.declared.limits.TheConstants.{PLAYER_LIMIT};
 ghost use Rattle.roll_epoch.specs.Ends.{IsEnd, are_delays, counting, in_rows, is_delay, is_void, noted, sooner, told};
 
+use crate::inputs::are_alike;
 use crate::limits::{DELAY_MOST, THRESHOLD_MOST};
 use crate::terms::Terms;
 use roll_mesh::PLAYER_LIMIT;
@@ -30,7 +31,7 @@ fn is_delay(delay: Option<u8>, giver: u8, owner: u8) -> bool
 }
 
 /// Whether all players may.
-fn are_delays(delays: &[Option<u8>; PLAYER_LIMIT], giver: u8, terms: &Terms) -> bool
+pub(crate) fn are_delays(delays: &[Option<u8>; PLAYER_LIMIT], giver: u8, terms: &Terms) -> bool
     ensures { result ≡ are_delays delays.now giver terms.now }
 {
     for player in 0..PLAYER_LIMIT {
@@ -41,14 +42,14 @@ fn are_delays(delays: &[Option<u8>; PLAYER_LIMIT], giver: u8, terms: &Terms) -> 
     true
 }
 
-/// Whether a mark is as if it weren't there: it says what can't be, or what its giver has no say in, or somebody is to come who isn't
-/// welcome: whom the program's own test of the ticket refused. The test has to say the same at all machines.
-pub fn is_void(mark: &Mark, giver: u8, terms: &Terms, is_welcome: bool) -> bool
-    ensures { result ≡ is_void mark.now giver terms.now is_welcome }
+/// Whether a mark is as if it weren't there, whoever is to come by it: it says what can't be, or what its giver has no say in, or words of
+/// one input have other delays than each other by it.
+pub fn is_void(mark: &Mark, giver: u8, terms: &Terms) -> bool
+    ensures { result ≡ is_void mark.now giver terms.now }
 {
     mark.threshold > THRESHOLD_MOST
         || !are_delays(&mark.delays, giver, terms)
-        || (mark.newcomer.is_some() && !is_welcome)
+        || !are_alike(&mark.delays, terms)
 }
 
 /// A player's mark, if its word is in the rows before a frame: if the player hadn't left.
@@ -113,41 +114,39 @@ impl Marks {
     fn counting(
         &self,
         terms: &Terms,
-        welcome: &[bool; PLAYER_LIMIT],
         left: &[Option<u32>; PLAYER_LIMIT],
         settled: u32,
         player: usize,
     ) -> Option<Marked>
         requires { player < PLAYER_LIMIT }
         ensures counts { result
-            ≡ counting (told self.now terms.now welcome.now left.now) settled player }
+            ≡ counting (told self.now terms.now left.now) settled player }
         ensures below { IfSome result (λ m. m.frame < settled) }
     {
         let marked = in_rows(settled, left[player], self.first[player])?;
-        if is_void(&marked.mark, terms.owners[player], terms, welcome[player]) {
+        if is_void(&marked.mark, terms.owners[player], terms) {
             return None;
         }
         Some(marked)
     }
 
     /// Where an epoch of these terms ends that has so many settled rows: after the first of them that has a word with a mark that
-    /// counts; of several in it, by that of the lowest player. `welcome` says of each player whether whoever is to come by its mark is
-    /// welcome, and `left` at how many words it left.
+    /// counts; of several in it, by that of the lowest player. `left` says of each player at how many words it
+    /// left.
     pub fn end(
         &self,
         terms: &Terms,
-        welcome: &[bool; PLAYER_LIMIT],
         left: &[Option<u32>; PLAYER_LIMIT],
         settled: u32,
     ) -> Option<Ending>
         ensures found { IfSome result
-            (IsEnd (told self.now terms.now welcome.now left.now) settled) }
+            (IsEnd (told self.now terms.now left.now) settled) }
         ensures none { IfNone result ((p : ℕ) → p < PLAYER_LIMIT
-            → counting (told self.now terms.now welcome.now left.now) settled p ≡ None) }
+            → counting (told self.now terms.now left.now) settled p ≡ None) }
     {
         let mut ending = None;
         for player in 0..PLAYER_LIMIT {
-            let marked = self.counting(terms, welcome, left, settled, player);
+            let marked = self.counting(terms, left, settled, player);
             ending = sooner(ending, player as u8, marked);
         }
         ending

@@ -1,5 +1,5 @@
 //! Who owns which player in the next epoch.
-ghost use Rattle.std.specs.Prelude.{◌≡◌, ◌<◌, IfSome, Some, slice_get, filter, not, ◌==◌};
+ghost use Rattle.std.specs.Prelude.{◌≡◌, ◌<◌, ◌≤◌, IfSome, Some, slice_get, filter, not, ◌==◌};
 ghost use Rattle.std.specs.List.{list_all, range_with_len};
 ghost use Rattle.roll_mesh.specs.Groups.{first_of};
 ghost use Rattle.roll_mesh.specs.declared.limits.TheConstants.{PLAYER_LIMIT, MACHINE_LIMIT};
@@ -90,8 +90,9 @@ pub(crate) fn free_seat(owners: &Owners) -> Option<u8>
 }
 
 /// The first player of the input that a player is a word of, where each input has so many.
-fn first_of(words: u8, player: usize) -> usize
-    ensures { result ≡ first_of words player }
+pub(crate) fn first_of(words: u8, player: usize) -> usize
+    ensures first { result ≡ first_of words player }
+    ensures within { result ≤ player }
 {
     let words = usize::from(words);
     if words == 0 {

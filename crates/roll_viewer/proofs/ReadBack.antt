@@ -23,7 +23,7 @@ use Rattle.roll_viewer.specs.declared.refusal.LineRefusal.TheVariants.{Ended, No
 number_of : (line : Line) (what : Content) → (key_for line what).number ≡ line.settings.number
 number_of line (Greets h) = refl
 number_of line (Plays t) = refl
-number_of line Leaves = refl
+number_of line (Leaves why) = refl
 
 pub has_number : (key : Key) (sender : ℕ) (what : Content) → HasNumber key.number (spelling (message_by key sender what))
 has_number key sender what = refl

@@ -15,7 +15,7 @@ use Rattle.roll_viewer.specs.declared.line.Line.{Line}
 abbrev kind_of : Content → ℕ
 kind_of (Greets h) = 0
 kind_of (Plays t) = 1
-kind_of Leaves = 2
+kind_of (Leaves why) = 2
 
 kind_said : (m : Message) → get_or (spelling m) 13 0 ≡ kind_of m.content
 kind_said m = go m.content
@@ -23,7 +23,7 @@ kind_said m = go m.content
     go : (what : Content) → get_or (spelling (record { envelope = m.envelope; content = what })) 13 0 ≡ kind_of what
     go (Greets h) = refl
     go (Plays t) = refl
-    go Leaves = refl
+    go (Leaves why) = refl
 
 -- the number stands before the kind
 kind_named : (n : ℕ) (bytes : List ℕ) → 12 ≤ length bytes → get_or (named n bytes) 13 0 ≡ get_or bytes 13 0
@@ -56,4 +56,4 @@ sealed_for line bytes text m u e = go m.content kind
         subst (λ (key : Key). IsSealed key bytes)
         (sym (key_is (greeting_key line.settings.number) u.key (ap (their_key line) (sym k) ∙ u.is_key))) u.is_sealed
     go (Plays t) k = both (is_playing line.contact.stage) refl (ap (their_key line) (sym k) ∙ u.is_key)
-    go Leaves k = both (is_playing line.contact.stage) refl (ap (their_key line) (sym k) ∙ u.is_key)
+    go (Leaves why) k = both (is_playing line.contact.stage) refl (ap (their_key line) (sym k) ∙ u.is_key)

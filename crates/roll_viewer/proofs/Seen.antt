@@ -43,8 +43,8 @@ said_in host core now bytes e = go host.line.ended e
     go false e = sym (cc e)
 
 -- what it said as it left
-said_leaving : (line : Line) (bytes : List ℕ) (b : Bool) → (if b then Some (said line line.settings.host Leaves) else None) ≡ Some bytes
-    → bytes ≡ said line line.settings.host Leaves
+said_leaving : (line : Line) (bytes : List ℕ) (b : Bool) → (if b then Some (said line line.settings.host (Leaves 0)) else None) ≡ Some bytes
+    → bytes ≡ said line line.settings.host (Leaves 0)
 said_leaving line bytes true e = sym (cc e)
 said_leaving line bytes false e = absurd (cc e)
 
@@ -87,8 +87,8 @@ module _ (settings : Settings) (log : List Entry) (number : ℕ) (bytes : List �
     told = play_read s t e (says_hello s.host.line.contact) refl (turn_read s (Plays t) e);
   }
   told_by (inr s) t e =
-      let left : Plays t ≡ Leaves =
-      read_back s.host.line line s.host.line.settings.host sender Leaves (Plays t) bytes
+      let left : Plays t ≡ Leaves 0 =
+      read_back s.host.line line s.host.line.settings.host sender (Leaves 0) (Plays t) bytes
       (said_leaving s.host.line bytes _ s.sent) s.fits (s.numbered ∙ same) e in
       absurd (cc left)
 
@@ -183,7 +183,7 @@ module _ (settings : Settings) (game : Game) (log : List Entry) (l : IsLog setti
           let accepted : unread old.viewer t ≡ None = ap (ignored_by_viewer old.viewer) (sym e) ∙ c.accepted in
           let told = told_by settings log old.viewer.line.settings.number c.bytes old.viewer.line refl old.viewer.line.settings.host (c.of_host sealed.1) t e in
           comes old new h t told (heard_from old.viewer t accepted) c.now c.count heard c.seen
-      go Leaves e sealed heard =
+      go (Leaves why) e sealed heard =
           stays old new h (ap (λ (v : Viewing). v.line.settings) heard.0) (ap (λ (v : Viewing). v.rows) heard.0) c.seen
 
   gives : (old new : Watching) → Holds old → GivesRows old new → Holds new
@@ -241,7 +241,7 @@ module _ (settings : Settings) (game : Game) (log : List Entry) (l : IsLog setti
           → Hears old.viewer new.viewer h.now what h.count
           → (s.host.had + room_after core s.host.had ≤ new.viewer.rows.count) ⊎ IsFull new.viewer.rows
       go (Greets hello) e heard = (let is = reads (Greets hello) e in absurd (cc is))
-      go Leaves e heard = (let is = reads Leaves e in absurd (cc is))
+      go (Leaves why) e heard = (let is = reads (Leaves why) e in absurd (cc is))
       go (Plays t) e heard =
           let told : t ≡ with_clocks s.host.line.contact.sent clocks (told_to core s.host.had) = play_is t _ (reads (Plays t) e) in
           let accepted : unread old.viewer t ≡ None = ap (ignored_by_viewer old.viewer) (sym e) ∙ h.accepted in

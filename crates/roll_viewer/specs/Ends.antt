@@ -37,7 +37,7 @@ abbrev pub unheard_by_host : Hosted → Content → Option LineRefusal
 unheard_by_host host (Greets hello) = mismatched host.line hello
 unheard_by_host host (Plays t) =
     if is_inside (players_of host.line.settings) t then None else Some NoRows
-unheard_by_host host Leaves = None
+unheard_by_host host (Leaves why) = None
 
 abbrev pub ignored_by_host : Hosted → Result Content LineRefusal → Option LineRefusal
 ignored_by_host host (Err why) = Some why
@@ -49,7 +49,7 @@ host_after host now (Plays t) = record host {
   line = after_play host.line t.head host.told now;
   had = after_ack host t.head.view.has;
 }
-host_after host now Leaves = record host { line = after_bye host.line }
+host_after host now (Leaves why) = record host { line = after_bye host.line }
 
 -- the host hears bytes
 pub record HostHears (old new : Hosted) (bytes : List ℕ) (now : ℕ) : Type 0 where
@@ -111,7 +111,7 @@ unread viewer t =
 abbrev pub unheard_by_viewer : Viewing → Content → Option LineRefusal
 unheard_by_viewer viewer (Greets hello) = mismatched viewer.line hello
 unheard_by_viewer viewer (Plays t) = unread viewer t
-unheard_by_viewer viewer Leaves = None
+unheard_by_viewer viewer (Leaves why) = None
 
 abbrev pub ignored_by_viewer : Viewing → Result Content LineRefusal → Option LineRefusal
 ignored_by_viewer viewer (Err why) = Some why
@@ -127,7 +127,7 @@ abbrev pub Hears : (old new : Viewing) → ℕ → Content → (count : ℕ) →
 Hears old new now (Greets hello) count =
     (new ≡ record old { line = after_hello old.line hello now }) × (count ≡ 0)
 Hears old new now (Plays t) count = HearsRows old new now t count
-Hears old new now Leaves count = (new ≡ record old { line = after_bye old.line }) × (count ≡ 0)
+Hears old new now (Leaves why) count = (new ≡ record old { line = after_bye old.line }) × (count ≡ 0)
 
 -- the viewer hears bytes
 pub record ViewerHears (old new : Viewing) (bytes : List ℕ) (now count : ℕ) : Type 0 where

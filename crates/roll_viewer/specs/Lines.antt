@@ -33,7 +33,9 @@ terms_of settings = record {
   machines = settings.machines;
   owners = settings.owners;
   digest = settings.digest;
+  opening = settings.opening;
   words = 1;
+  lasts = false;
 }
 
 -- what an end says of itself
@@ -133,7 +135,7 @@ abbrev pub IsSealedFor : Line → List ℕ → Content → Type 0
 IsSealedFor line bytes (Greets hello) = IsSealed (greeting_key line.settings.number) bytes
 IsSealedFor line bytes (Plays t) =
     (is_playing line.contact.stage ≡ true) × IsSealed (key_of_both line) bytes
-IsSealedFor line bytes Leaves =
+IsSealedFor line bytes (Leaves why) =
     (is_playing line.contact.stage ≡ true) × IsSealed (key_of_both line) bytes
 
 -- the datagram that was sealed as bytes by the key of its kind
@@ -177,7 +179,7 @@ after_unread why line = line
 abbrev pub after_refusal : Line → ℕ → LineRefusal → Result Content LineRefusal → Line
 after_refusal line now why (Ok (Greets hello)) = after_hello line hello now
 after_refusal line now why (Ok (Plays t)) = after_unread why line
-after_refusal line now why (Ok Leaves) = after_unread why line
+after_refusal line now why (Ok (Leaves reason)) = after_unread why line
 after_refusal line now why (Err other) = after_unread why line
 
 -- for how long no new clock came back from the other end, if its draw is believed
@@ -202,7 +204,7 @@ own_key line = record {
 abbrev pub key_for : Line → Content → Key
 key_for line (Greets hello) = greeting_key line.settings.number
 key_for line (Plays t) = own_key line
-key_for line Leaves = own_key line
+key_for line (Leaves why) = own_key line
 
 -- what one end says, as a datagram
 abbrev pub message_of : Line → ℕ → Content → Message
@@ -236,6 +238,6 @@ turn_said line now =
     if line.ended then line
     else (if says_hello line.contact then hello_said line now else play_said line now)
 
--- the bytes that say bye: none if the other end's draw isn't believed
+-- the bytes that say bye, for no reason that is told: none if the other end's draw isn't believed
 abbrev pub farewell : Line → (sender : ℕ) → Option (List ℕ)
-farewell line sender = if is_playing line.contact.stage then Some (said line sender Leaves) else None
+farewell line sender = if is_playing line.contact.stage then Some (said line sender (Leaves 0)) else None

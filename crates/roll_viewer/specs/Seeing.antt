@@ -46,7 +46,7 @@ pub record IsOfTurn (settings : Settings) (log : List Entry) (number : ℕ) (byt
 pub record IsOfLeaving (number : ℕ) (bytes : List ℕ) : Type 0 where
   pub host : Hosted
   pub sent : farewell host.line host.line.settings.host ≡ Some bytes
-  pub fits : Fits (message_of host.line host.line.settings.host Leaves)
+  pub fits : Fits (message_of host.line host.line.settings.host (Leaves 0))
   pub numbered : host.line.settings.number ≡ number
 
 abbrev pub IsOfHost : Settings → List Entry → (number : ℕ) → List ℕ → Type 0

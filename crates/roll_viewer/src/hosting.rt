@@ -83,7 +83,7 @@ impl ViewerLine {
         match self.line.open(VIEWER, bytes)? {
             Body::Hello(hello) => self.line.hear_hello(&hello, now),
             Body::Play(play) => self.hear_play(&play, now),
-            Body::Bye => {
+            Body::Bye { .. } => {
                 self.line.end();
                 Ok(())
             }
@@ -166,7 +166,7 @@ impl ViewerLine {
         ensures said { option_map (λ bytes. bytes.items) result
             ≡ farewell self.old.line self.old.line.settings.host }
         ensures fits { IfSome result
-            (λ bytes. Fits (message_of self.old.line self.old.line.settings.host Leaves)) }
+            (λ bytes. Fits (message_of self.old.line self.old.line.settings.host (Leaves 0))) }
         ensures ended { self.new ≡ record self.old { line = after_bye self.old.line } }
     {
         let host = self.line.settings.host;

@@ -220,11 +220,11 @@ impl Line {
     /// One of the two leaves: the bytes that say so, if the other end's draw is believed. The line ends in any case.
     pub(crate) fn bye(&mut self, sender: u8) -> Option<ArrayVec<u8, DATAGRAM_LIMIT>>
         ensures said { option_map (λ bytes. bytes.items) result ≡ farewell self.old sender }
-        ensures fits { IfSome result (λ bytes. Fits (message_of self.old sender Leaves)) }
+        ensures fits { IfSome result (λ bytes. Fits (message_of self.old sender (Leaves 0))) }
         ensures ended { self.new ≡ after_bye self.old }
     {
         let bytes = if self.is_playing() {
-            Some(self.say(sender, Body::Bye))
+            Some(self.say(sender, Body::Bye { why: 0 }))
         } else {
             None
         };

@@ -20,8 +20,10 @@ pub struct LineSettings {
     pub machines: u8,
     /// The machine that owns each player, player 1 first; 255 if there is no such player.
     pub owners: [u8; PLAYER_LIMIT],
-    /// A digest of all else that must be alike: the game, its opening, the session's limits.
+    /// A digest of all else that must be alike, but for the opening state: the game, the session's limits.
     pub digest: u64,
+    /// A digest of the game's opening state.
+    pub opening: u64,
     /// After how many milliseconds the other end is silent, which answers nothing; 0: it never is.
     pub silent_after: u32,
 }
@@ -50,7 +52,9 @@ impl LineSettings {
             machines: self.machines,
             owners: self.owners,
             digest: self.digest,
+            opening: self.opening,
             words: 1,
+            lasts: false,
         }
     }
 

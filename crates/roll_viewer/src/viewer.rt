@@ -94,7 +94,7 @@ impl Viewer {
                 Ok(0)
             }
             Body::Play(play) => self.hear_play(&play, now),
-            Body::Bye => {
+            Body::Bye { .. } => {
                 self.line.end();
                 Ok(0)
             }

@@ -70,27 +70,42 @@ last_at = both_at (number_at w32) byte_at
 last_field : IsField Last last last_at
 last_field = both_field IsNumber number (number_at w32) IsByte byte byte_at number_field byte_field
 
-abbrev Opening : ℕ × (ℕ × (ℕ × ℕ)) → Type 0
-Opening x = IsLong x.0 × (IsLong x.1.0 × Last x.1.1)
+abbrev Draws : ℕ × (ℕ × (ℕ × ℕ)) → Type 0
+Draws x = IsLong x.0 × (IsLong x.1.0 × Last x.1.1)
 
-abbrev opening : ℕ × (ℕ × (ℕ × ℕ)) → List ℕ
-opening x = long x.0 ++ (long x.1.0 ++ last x.1.1)
+abbrev draws : ℕ × (ℕ × (ℕ × ℕ)) → List ℕ
+draws x = long x.0 ++ (long x.1.0 ++ last x.1.1)
 
-abbrev opening_at : List ℕ → Result ((ℕ × (ℕ × (ℕ × ℕ))) × List ℕ) WireFault
-opening_at = both_at (number_at w64) (both_at (number_at w64) last_at)
+abbrev draws_at : List ℕ → Result ((ℕ × (ℕ × (ℕ × ℕ))) × List ℕ) WireFault
+draws_at = both_at (number_at w64) (both_at (number_at w64) last_at)
 
-opening_field : IsField Opening opening opening_at
-opening_field =
+draws_field : IsField Draws draws draws_at
+draws_field =
     both_field IsLong long (number_at w64) (λ x. IsLong x.0 × Last x.1) (λ x. long x.0 ++ last x.1)
     (both_at (number_at w64) last_at) long_field
     (both_field IsLong long (number_at w64) Last last last_at long_field last_field)
 
+abbrev Digests : ℕ × (ℕ × (ℕ × (ℕ × (ℕ × ℕ)))) → Type 0
+Digests x = IsLong x.0 × (IsLong x.1.0 × Draws x.1.1)
+
+abbrev digests : ℕ × (ℕ × (ℕ × (ℕ × (ℕ × ℕ)))) → List ℕ
+digests x = long x.0 ++ (long x.1.0 ++ draws x.1.1)
+
+abbrev digests_at : List ℕ → Result ((ℕ × (ℕ × (ℕ × (ℕ × (ℕ × ℕ))))) × List ℕ) WireFault
+digests_at = both_at (number_at w64) (both_at (number_at w64) draws_at)
+
+digests_field : IsField Digests digests digests_at
+digests_field =
+    both_field IsLong long (number_at w64) (λ x. IsLong x.0 × Draws x.1) (λ x. long x.0 ++ draws x.1)
+    (both_at (number_at w64) draws_at) long_field
+    (both_field IsLong long (number_at w64) Draws draws draws_at long_field draws_field)
+
 abbrev HelloParts : Type 0
-HelloParts = ℕ × (ℕ × (List ℕ × (ℕ × (ℕ × (ℕ × (ℕ × ℕ))))))
+HelloParts = ℕ × (ℕ × (List ℕ × (ℕ × (ℕ × (ℕ × (ℕ × (ℕ × ℕ)))))))
 
 abbrev hello_parts : List ℕ → Result (HelloParts × List ℕ) WireFault
 hello_parts = both_at byte_at (both_at byte_at
-    (both_at (repeated byte_at PLAYER_LIMIT) (both_at (number_at w64) opening_at)))
+    (both_at (repeated byte_at PLAYER_LIMIT) digests_at))
 
 abbrev hello_of : HelloParts → Hello
 hello_of x = record {
@@ -98,15 +113,16 @@ hello_of x = record {
   words = x.1.0;
   owners = x.1.1.0;
   settings = x.1.1.1.0;
-  draw = x.1.1.1.1.0;
-  echo = x.1.1.1.1.1.0;
-  patience = x.1.1.1.1.1.1.0;
-  abilities = x.1.1.1.1.1.1.1;
+  opening = x.1.1.1.1.0;
+  draw = x.1.1.1.1.1.0;
+  echo = x.1.1.1.1.1.1.0;
+  patience = x.1.1.1.1.1.1.1.0;
+  abilities = x.1.1.1.1.1.1.1.1;
 }
 
 abbrev parts_of_hello : Hello → HelloParts
 parts_of_hello h =
-    (h.machines, (h.words, (h.owners, (h.settings, (h.draw, (h.echo, (h.patience, h.abilities)))))))
+    (h.machines, (h.words, (h.owners, (h.settings, (h.opening, (h.draw, (h.echo, (h.patience, h.abilities))))))))
 
 hello_same : (bytes : List ℕ) → hello_at bytes ≡ seen_at hello_of hello_parts bytes
 unfolding hello_at
@@ -116,22 +132,17 @@ pub hello_field : IsField IsHello hello hello_at
 hello_field =
     same_field IsHello hello hello_at (seen_at hello_of hello_parts) hello_same
     (seen_field hello_of parts_of_hello
-    (λ x. IsByte x.0 × (IsByte x.1.0 × (AreBytes x.1.1.0 × (IsLong x.1.1.1.0 × Opening x.1.1.1.1))))
-    (λ x. byte x.0
-    ++ (byte x.1.0 ++ (flat_map byte x.1.1.0 ++ (long x.1.1.1.0 ++ opening x.1.1.1.1)))) hello_parts
+    (λ x. IsByte x.0 × (IsByte x.1.0 × (AreBytes x.1.1.0 × Digests x.1.1.1)))
+    (λ x. byte x.0 ++ (byte x.1.0 ++ (flat_map byte x.1.1.0 ++ digests x.1.1.1))) hello_parts
     (λ x. refl) (λ h. refl)
-    (both_field IsByte byte byte_at
-    (λ x. IsByte x.0 × (AreBytes x.1.0 × (IsLong x.1.1.0 × Opening x.1.1.1)))
-    (λ x. byte x.0 ++ (flat_map byte x.1.0 ++ (long x.1.1.0 ++ opening x.1.1.1)))
-    (both_at byte_at (both_at (repeated byte_at PLAYER_LIMIT) (both_at (number_at w64) opening_at)))
-    byte_field
-    (both_field IsByte byte byte_at (λ x. AreBytes x.0 × (IsLong x.1.0 × Opening x.1.1))
-    (λ x. flat_map byte x.0 ++ (long x.1.0 ++ opening x.1.1))
-    (both_at (repeated byte_at PLAYER_LIMIT) (both_at (number_at w64) opening_at)) byte_field
-    (both_field AreBytes (λ ns. flat_map byte ns) (repeated byte_at PLAYER_LIMIT)
-    (λ x. IsLong x.0 × Opening x.1) (λ x. long x.0 ++ opening x.1)
-    (both_at (number_at w64) opening_at) (repeated_field IsByte byte byte_at PLAYER_LIMIT byte_field)
-    (both_field IsLong long (number_at w64) Opening opening opening_at long_field opening_field)))))
+    (both_field IsByte byte byte_at (λ x. IsByte x.0 × (AreBytes x.1.0 × Digests x.1.1))
+    (λ x. byte x.0 ++ (flat_map byte x.1.0 ++ digests x.1.1))
+    (both_at byte_at (both_at (repeated byte_at PLAYER_LIMIT) digests_at)) byte_field
+    (both_field IsByte byte byte_at (λ x. AreBytes x.0 × Digests x.1)
+    (λ x. flat_map byte x.0 ++ digests x.1)
+    (both_at (repeated byte_at PLAYER_LIMIT) digests_at) byte_field
+    (both_field AreBytes (λ ns. flat_map byte ns) (repeated byte_at PLAYER_LIMIT) Digests digests
+    digests_at (repeated_field IsByte byte byte_at PLAYER_LIMIT byte_field) digests_field))))
 
 -- ---- clocks
 

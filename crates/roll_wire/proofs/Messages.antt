@@ -1,22 +1,20 @@
 -- The two laws: what is read is spelled so, and what is spelled so is read.
 use Rattle.std.proofs.Common.{◌≡◌, ℕ, zero, suc, true, cond, eqb, leb, List, [], ◌∷◌, ◌++◌, length, None, Result, Ok, Err, refl, sym, ap, subst, ◌∙◌, append_assoc, arith}
-use Rattle.std.specs.List.{AllByRecursion}
-use Rattle.std.specs.Prelude.{Option, IfOk, IfSome}
+use Rattle.std.specs.Prelude.{Option, IfOk}
 use Rattle.std.specs.Int.{w32}
 use Rattle.std.proofs.lemmas.Bool.{eqb-true, leb-true, le-leb}
 use Rattle.std.proofs.lemmas.List.{append-nil, nil_from_length}
-use Rattle.roll_mesh.specs.declared.limits.TheConstants.{PLAYER_LIMIT}
 use Rattle.roll_mesh.specs.declared.packet.Offer.{Offer}
 use Rattle.roll_wire.specs.declared.datagram.Datagram.{Datagram}
 use Rattle.roll_wire.specs.declared.datagram.Envelope.{Envelope}
 use Rattle.roll_wire.specs.declared.datagram.Head.{Head}
 use Rattle.roll_wire.specs.declared.datagram.Marked.{Marked}
 use Rattle.roll_wire.specs.declared.fault.WireFault.{WireFault}
-use Rattle.roll_wire.specs.declared.fault.WireFault.TheVariants.{Magic, Misplaced, TooMany, Trailing, Mark as MarkFault}
+use Rattle.roll_wire.specs.declared.fault.WireFault.TheVariants.{Magic, TooMany, Trailing, Mark as MarkFault}
 use Rattle.roll_wire.specs.declared.limits.TheConstants.{MAGIC, WORD_LIMIT}
-use Rattle.roll_wire.specs.Spelling.{Content, Greets, Plays, Leaves, Message, Turn, body, envelope, hello, message, number, head, marks, runs, spelling, are_placed, count_of, Fits, IsContent, IsMarked, IsTurn}
-use Rattle.roll_wire.specs.Reading.{◌>>=◌, Gives, number_at, magic_at, envelope_at, hello_at, head_at, is_unmarked, marked_at, marks_at, masked_at, placed, unmarked, unmarked_of, within_at, words_at, turn_at, content_at, all_of}
-use Rattle.roll_wire.proofs.Fields.{IsBytes, IsBytes-rest, Takes, Takes-then, bind_ok, passed_ok, ok_is, number_field}
+use Rattle.roll_wire.specs.Spelling.{Content, Greets, Plays, Leaves, Message, Turn, body, envelope, hello, message, number, head, marks, runs, spelling, byte, count_of, Fits, IsContent, IsTurn}
+use Rattle.roll_wire.specs.Reading.{◌>>=◌, Gives, number_at, byte_at, magic_at, envelope_at, hello_at, head_at, is_unmarked, marks_at, unmarked, unmarked_of, words_at, turn_at, content_at, all_of}
+use Rattle.roll_wire.proofs.Fields.{IsBytes, IsBytes-rest, Takes, Takes-then, bind_ok, passed_ok, ok_is, number_field, byte_field}
 use Rattle.roll_wire.proofs.Groups.{envelope_field, head_field, hello_field, marks_field}
 use Rattle.roll_wire.proofs.Words.{words_take, words_again}
 
@@ -39,26 +37,6 @@ magic_again rest = rw (number_field.again MAGIC rest (omega arith)) refl
 
 -- ---- a turn
 
-abbrev AreMarks : List Offer → List (Option Marked) → Type 0
-AreMarks offers ms = ((length ms ≡ PLAYER_LIMIT) × AllByRecursion (λ m. IfSome m IsMarked) ms)
-    × (are_placed offers ms ≡ true)
-
-marks_take : (offers : List Offer) (bytes : List ℕ) (ms : List (Option Marked)) (rest : List ℕ)
-    → IsBytes bytes → marks_at offers bytes ≡ Ok (ms, rest)
-    → Takes bytes (marks ms) rest × AreMarks offers ms
-unfolding marks_at
-marks_take offers bytes ms rest b e =
-    let p = bind_ok (masked_at None (within_at marked_at) bytes) (placed offers) (ms, rest) e in
-    let g = passed_ok (are_placed offers p.0.0) Misplaced p.0 (ms, rest) p.2 in
-    let t = marks_field.takes bytes p.0.0 p.0.1 b p.1 in
-    subst (λ (x : List (Option Marked) × List ℕ). Takes bytes (marks x.0) x.1 × AreMarks offers x.0)
-    g.1 (t.0, (t.1, g.0))
-
-marks_again : (offers : List Offer) (ms : List (Option Marked)) (rest : List ℕ)
-    → AreMarks offers ms → marks_at offers (marks ms ++ rest) ≡ Ok (ms, rest)
-unfolding marks_at
-marks_again offers ms rest h = rw (marks_field.again ms rest h.0, h.1) refl
-
 abbrev turn_text : Turn → List ℕ
 turn_text t = head t.head ++ (marks t.marks ++ runs t.words)
 
@@ -73,17 +51,17 @@ turn_takes : (bytes : List ℕ) (t : Turn) (rest : List ℕ) → IsBytes bytes
 unfolding turn_at
 turn_takes bytes t rest b e =
     let q = bind_ok (head_at bytes) (λ h. counted h.0.offers >>=
-    λ count. marks_at h.0.offers h.1 >>= λ ms. words_at count 0 None ms.1 >>= with_words h.0 ms.0)
+    λ count. marks_at h.1 >>= λ ms. words_at count 0 None ms.1 >>= with_words h.0 ms.0)
     (t, rest) e in
-    let r = bind_ok (counted q.0.0.offers) (λ count. marks_at q.0.0.offers q.0.1 >>=
+    let r = bind_ok (counted q.0.0.offers) (λ count. marks_at q.0.1 >>=
     λ ms. words_at count 0 None ms.1 >>= with_words q.0.0 ms.0) (t, rest) q.2 in
-    let m = bind_ok (marks_at q.0.0.offers q.0.1)
+    let m = bind_ok (marks_at q.0.1)
     (λ ms. words_at r.0 0 None ms.1 >>= with_words q.0.0 ms.0) (t, rest) r.2 in
     let s = bind_ok (words_at r.0 0 None m.0.1) (with_words q.0.0 m.0.0) (t, rest) m.2 in
     let c = passed_ok (leb (count_of q.0.0.offers) WORD_LIMIT) TooMany (count_of q.0.0.offers) r.0
     r.1 in
     let u = head_field.takes bytes q.0.0 q.0.1 b q.1 in
-    let k = marks_take q.0.0.offers q.0.1 m.0.0 m.0.1 u.0.rest_fits m.1 in
+    let k = marks_field.takes q.0.1 m.0.0 m.0.1 u.0.rest_fits m.1 in
     let v = words_take r.0 m.0.1 s.0.0 s.0.1 k.0.rest_fits s.1 in
     let with_marks = Takes-then q.0.1 (marks m.0.0) m.0.1 (runs s.0.0) s.0.1 k.0 v.takes in
     let made : Turn × List ℕ =
@@ -93,8 +71,7 @@ turn_takes bytes t rest b e =
       Takes-then bytes (head q.0.0) q.0.1 (marks m.0.0 ++ runs s.0.0) s.0.1 u.0 with_marks,
       record {
         head = u.1;
-        marks = k.1.0;
-        are_placed = k.1.1;
+        marks = k.1;
         words = v.all ∙ sym c.1;
         few = leb-true (count_of q.0.0.offers) WORD_LIMIT c.0;
         are_words = v.fits;
@@ -115,7 +92,7 @@ turn_again t rest f =
     ∙ rw (
       head_field.again t.head (marks t.marks ++ (runs t.words ++ rest)) f.head,
       few,
-      marks_again t.head.offers t.marks (runs t.words ++ rest) (f.marks, f.are_placed),
+      marks_field.again t.marks (runs t.words ++ rest) f.marks,
       words,
     ) refl
 
@@ -143,9 +120,10 @@ content_takes (suc zero ∷ bytes) c rest b e =
     subst (λ (x : Content × List ℕ). Takes (1 ∷ bytes) (body x.0) x.1 × IsContent x.0)
     (ok_is (Plays p.0.0, p.0.1) (c, rest) p.2) (behind 1 bytes (turn_text p.0.0) p.0.1 t.0, t.1)
 content_takes (suc (suc zero) ∷ bytes) c rest b e =
+    let p = bind_ok (byte_at bytes) (λ why. Ok (Leaves why.0, why.1)) (c, rest) e in
+    let t = byte_field.takes bytes p.0.0 p.0.1 (IsBytes-rest 2 bytes b) p.1 in
     subst (λ (x : Content × List ℕ). Takes (2 ∷ bytes) (body x.0) x.1 × IsContent x.0)
-    (ok_is (Leaves, bytes) (c, rest) e)
-    (record { parts = refl; rest_fits = IsBytes-rest 2 bytes b }, tt)
+    (ok_is (Leaves p.0.0, p.0.1) (c, rest) p.2) (behind 2 bytes (byte p.0.0) p.0.1 t.0, t.1)
 content_takes (suc (suc (suc kind)) ∷ bytes) c rest b e = absurd cc
 
 content_again : (c : Content) (rest : List ℕ) → IsContent c
@@ -153,7 +131,7 @@ content_again : (c : Content) (rest : List ℕ) → IsContent c
 unfolding content_at
 content_again (Greets h) rest f = rw (hello_field.again h rest f) refl
 content_again (Plays t) rest f = rw (turn_again t rest f) refl
-content_again Leaves rest f = refl
+content_again (Leaves why) rest f = rw (byte_field.again why rest f) refl
 
 -- ---- the whole
 

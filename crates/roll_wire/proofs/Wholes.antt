@@ -8,7 +8,7 @@ use Rattle.roll_mesh.specs.declared.packet.Offer.{Offer}
 use Rattle.roll_wire.specs.declared.datagram.Marked.{Marked}
 use Rattle.roll_wire.specs.declared.datagram.Newcomer.{Newcomer}
 use Rattle.roll_wire.specs.declared.limits.TheConstants.{WORD_LIMIT}
-use Rattle.roll_wire.specs.Spelling.{Content, Greets, Plays, Leaves, Turn, IsContent, IsHead, IsMarked, IsNewcomer, IsNumber, IsOffer, IsTurn, are_offers, are_placed, are_spelled, count_of, has_players, is_offer, is_spelled, is_turn, is_whole}
+use Rattle.roll_wire.specs.Spelling.{Content, Greets, Plays, Leaves, Turn, IsContent, IsHead, IsMarked, IsNewcomer, IsNumber, IsOffer, IsTurn, are_offers, are_spelled, count_of, has_players, is_offer, is_spelled, is_turn, is_whole}
 
 all_numbers : (ws : List ℕ) → ((i : ℕ) → i < length ws → get_or ws i 0 < 2 ^ 32)
     → AllByRecursion IsNumber ws
@@ -42,45 +42,34 @@ are_and_count t = are_offers t.head.offers && (count_of t.head.offers == length 
 abbrev has_few : Turn → Bool
 has_few t = are_and_count t && nat_le (length t.words) WORD_LIMIT
 
-abbrev has_marks : Turn → Bool
-has_marks t = are_placed t.head.offers t.marks && are_spelled t.marks
-
 -- what a turn has that is one
 pub record Parts (t : Turn) : Type 0 where
   pub offers : are_offers t.head.offers ≡ true
   pub count : count_of t.head.offers ≡ length t.words
   pub few : length t.words ≤ WORD_LIMIT
-  pub marks : are_placed t.head.offers t.marks ≡ true
   pub spelled : are_spelled t.marks ≡ true
 
 pub parts_of : (t : Turn) → is_turn t ≡ true → Parts t
 parts_of t h =
-    let whole = and_parts (has_few t) (has_marks t) h in
+    let whole = and_parts (has_few t) (are_spelled t.marks) h in
     let outer = and_parts (are_and_count t) (nat_le (length t.words) WORD_LIMIT) whole.0 in
     let inner = and_parts (are_offers t.head.offers) (count_of t.head.offers == length t.words)
     outer.0 in
-    let marks = and_parts (are_placed t.head.offers t.marks) (are_spelled t.marks) whole.1 in
     record {
       offers = inner.0;
       count = eqb-true (count_of t.head.offers) (length t.words) inner.1;
       few = leb-true (length t.words) WORD_LIMIT outer.1;
-      marks = marks.0;
-      spelled = marks.1;
+      spelled = whole.1;
     }
-
-no_marks : (offers : List Offer) → are_placed offers (replicate PLAYER_LIMIT None) ≡ true
-unfolding are_placed
-no_marks offers = refl
 
 -- a turn without marks is one if its offers and its words are well
 pub unmarked_whole : (offers : List Offer) (words : List ℕ)
     → (are_offers offers && (count_of offers == length words) && nat_le (length words) WORD_LIMIT) ≡ true
     → (are_offers offers && (count_of offers == length words) && nat_le (length words) WORD_LIMIT
-    && (are_placed offers (replicate PLAYER_LIMIT None) && are_spelled (replicate PLAYER_LIMIT None))) ≡ true
+    && are_spelled (replicate PLAYER_LIMIT None)) ≡ true
 unmarked_whole offers words h =
     and_from (are_offers offers && (count_of offers == length words) && nat_le (length words) WORD_LIMIT)
-    (are_placed offers (replicate PLAYER_LIMIT None) && are_spelled (replicate PLAYER_LIMIT None)) h
-    (rw (no_marks offers) refl)
+    (are_spelled (replicate PLAYER_LIMIT None)) h refl
 
 abbrev AreMarked : List (Option Marked) → Type 0
 AreMarked ms = (length ms ≡ PLAYER_LIMIT) × AllByRecursion (λ m. IfSome m IsMarked) ms
@@ -92,7 +81,6 @@ turn_fits t head marks numbers h =
     record {
       head = head;
       marks = marks;
-      are_placed = p.marks;
       words = sym p.count;
       few = omega (arith, p.count, p.few);
       are_words = all_numbers t.words (λ i l. numbers i);
@@ -100,16 +88,15 @@ turn_fits t head marks numbers h =
 
 pub fits_turn : (t : Turn) → IsTurn t → is_turn t ≡ true
 fits_turn t f =
-    and_from (has_few t) (has_marks t)
+    and_from (has_few t) (are_spelled t.marks)
     (and_from (are_and_count t) (nat_le (length t.words) WORD_LIMIT)
     (and_from (are_offers t.head.offers) (count_of t.head.offers == length t.words)
     (in_order t.head.offers f.head.offers.1) (eq-eqb (count_of t.head.offers) (length t.words)
     (sym f.words)))
     (le-leb (length t.words) WORD_LIMIT (omega (arith, f.words, f.few))))
-    (and_from (are_placed t.head.offers t.marks) (are_spelled t.marks) f.are_placed
-    (spelled t.marks f.marks.1))
+    (spelled t.marks f.marks.1)
 
 pub fits_whole : (c : Content) → IsContent c → is_whole c ≡ true
 fits_whole (Greets h) f = refl
 fits_whole (Plays t) f = fits_turn t f
-fits_whole Leaves f = refl
+fits_whole (Leaves why) f = refl

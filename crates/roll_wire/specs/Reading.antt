@@ -14,9 +14,9 @@ use Rattle.roll_wire.specs.declared.datagram.Marked.{Marked}
 use Rattle.roll_wire.specs.declared.datagram.Newcomer.{Newcomer}
 use Rattle.roll_wire.specs.declared.datagram.Settled.{Settled}
 use Rattle.roll_wire.specs.declared.fault.WireFault.{WireFault}
-use Rattle.roll_wire.specs.declared.fault.WireFault.TheVariants.{Short, Magic, Kind, Flag, Long, Zero, TooFar, TooMany, Misplaced, Mark as MarkFault, Run, Trailing}
+use Rattle.roll_wire.specs.declared.fault.WireFault.TheVariants.{Short, Magic, Kind, Flag, Long, Zero, TooFar, TooMany, Mark as MarkFault, Run, Trailing}
 use Rattle.roll_wire.specs.declared.limits.TheConstants.{MAGIC, WORD_LIMIT}
-use Rattle.roll_wire.specs.Spelling.{Content, Greets, Plays, Leaves, Fits, Message, Turn, are_placed, count_of, spelling}
+use Rattle.roll_wire.specs.Spelling.{Content, Greets, Plays, Leaves, Fits, Message, Turn, count_of, spelling}
 
 infixl 10 ◌>>=◌
 abbrev pub ◌>>=◌ : {A B : Type 0} → Result A WireFault → (A → Result B WireFault)
@@ -169,7 +169,8 @@ hello_at bytes = do
   words ← byte_at machines.1
   owners ← repeated byte_at PLAYER_LIMIT words.1
   settings ← number_at w64 owners.1
-  draw ← number_at w64 settings.1
+  opening ← number_at w64 settings.1
+  draw ← number_at w64 opening.1
   echo ← number_at w64 draw.1
   patience ← number_at w32 echo.1
   abilities ← byte_at patience.1
@@ -179,6 +180,7 @@ hello_at bytes = do
       words = words.0;
       owners = owners.0;
       settings = settings.0;
+      opening = opening.0;
       draw = draw.0;
       echo = echo.0;
       patience = patience.0;
@@ -278,21 +280,15 @@ marked_at bytes = do
   mark ← mark_at frame.1
   Ok (record { frame = frame.0; mark = mark.0 }, mark.1)
 
--- marks of words that are offered so
-abbrev pub placed : List Offer → List (Option Marked) × List ℕ
-    → Result (List (Option Marked) × List ℕ) WireFault
-placed offers marks = if are_placed offers marks.0 then Ok marks else Err Misplaced
-
-unfoldable pub marks_at : List Offer → List ℕ → Result (List (Option Marked) × List ℕ) WireFault
-marks_at offers bytes = do
-  marks ← masked_at None (within_at marked_at) bytes
-  placed offers marks
+-- at most one mark of each player
+abbrev pub marks_at : List ℕ → Result (List (Option Marked) × List ℕ) WireFault
+marks_at bytes = masked_at None (within_at marked_at) bytes
 
 unfoldable pub turn_at : List ℕ → Result (Turn × List ℕ) WireFault
 turn_at bytes = do
   head ← head_at bytes
   count ← fitting (count_of head.0.offers)
-  marks ← marks_at head.0.offers head.1
+  marks ← marks_at head.1
   words ← words_at count 0 None marks.1
   Ok (record { head = head.0; marks = marks.0; words = words.0 }, words.1)
 
@@ -305,7 +301,9 @@ content_at (zero ∷ rest) = do
 content_at (suc zero ∷ rest) = do
   turn ← turn_at rest
   Ok (Plays turn.0, turn.1)
-content_at (suc (suc zero) ∷ rest) = Ok (Leaves, rest)
+content_at (suc (suc zero) ∷ rest) = do
+  why ← byte_at rest
+  Ok (Leaves why.0, why.1)
 content_at (suc (suc (suc kind)) ∷ rest) = Err Kind
 
 -- the whole of the bytes
@@ -321,7 +319,7 @@ all_of bytes = do
 abbrev pub is_unmarked : Content → Bool
 is_unmarked (Greets h) = true
 is_unmarked (Plays t) = list_all is_none t.marks
-is_unmarked Leaves = true
+is_unmarked (Leaves why) = true
 
 -- the whole of the bytes, if no word has a mark
 abbrev pub unmarked : Message → Result Message WireFault

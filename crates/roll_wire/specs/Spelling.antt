@@ -1,6 +1,6 @@
 -- What a datagram says, and its one spelling: fixed numbers with the highest byte first, short ones with the lowest.
-use Rattle.std.specs.Prelude.{◌≡◌, ℕ, zero, suc, ◌+◌, ◌-◌, ◌*◌, ◌/◌, ◌%◌, ◌<◌, ◌≤◌, ◌^◌, ◌==◌, List, [], ◌∷◌, ◌++◌, length, map, Bool, ◌&&◌, not, nat_lt, nat_le, if◌then◌else◌, true, false, Option, Some, None, is_some, IfSome, slice_index_or, ⊤}
-use Rattle.std.specs.List.{flat_map, list_all, list_any, range_with_len, sum_by, AllByRecursion}
+use Rattle.std.specs.Prelude.{◌≡◌, ℕ, zero, suc, ◌+◌, ◌-◌, ◌*◌, ◌/◌, ◌%◌, ◌<◌, ◌≤◌, ◌^◌, ◌==◌, List, [], ◌∷◌, ◌++◌, length, map, Bool, ◌&&◌, not, nat_lt, nat_le, if◌then◌else◌, true, false, Option, Some, None, is_some, IfSome}
+use Rattle.std.specs.List.{flat_map, list_all, list_any, sum_by, AllByRecursion}
 use Rattle.std.specs.Int.{w32, w64, to_be_bytes, from_bool}
 use Rattle.roll_mesh.specs.declared.limits.TheConstants.{MACHINE_LIMIT, PLAYER_LIMIT}
 use Rattle.roll_mesh.specs.declared.packet.Offer.{Offer}
@@ -28,7 +28,8 @@ pub record Turn : Type 0 where
 pub data Content : Type 0 where
   Greets : Hello → Content
   Plays : Turn → Content
-  Leaves : Content
+  -- why it leaves
+  Leaves : (why : ℕ) → Content
 
 pub record Message : Type 0 where
   pub envelope : Envelope
@@ -40,7 +41,7 @@ turn p = record { head = p.head; marks = p.marks; words = p.words.items }
 abbrev pub content : Body → Content
 content (HelloBody h) = Greets h
 content (PlayBody p) = Plays (turn p)
-content ByeBody = Leaves
+content (ByeBody why) = Leaves why
 
 -- what a datagram says
 abbrev pub message : Datagram → Message
@@ -97,8 +98,8 @@ envelope e = long e.match_number ++ byte e.sender
 abbrev pub hello : Hello → List ℕ
 hello h =
     byte h.machines
-    ++ (byte h.words ++ (flat_map byte h.owners ++ (long h.settings
-    ++ (long h.draw ++ (long h.echo ++ (number h.patience ++ byte h.abilities))))))
+    ++ (byte h.words ++ (flat_map byte h.owners ++ (long h.settings ++ (long h.opening
+    ++ (long h.draw ++ (long h.echo ++ (number h.patience ++ byte h.abilities)))))))
 
 abbrev pub clocks : Clocks → List ℕ
 clocks c =
@@ -179,7 +180,7 @@ runs ws = lead 0 ws ++ rest_of 0 ws
 abbrev pub body : Content → List ℕ
 body (Greets h) = byte 0 ++ hello h
 body (Plays t) = byte 1 ++ (head t.head ++ (marks t.marks ++ runs t.words))
-body Leaves = byte 2
+body (Leaves why) = byte 2 ++ byte why
 
 -- the bytes of a datagram
 abbrev pub spelling : Message → List ℕ
@@ -209,31 +210,17 @@ is_spelled (Some m) = has_players m.mark.newcomer
 abbrev pub are_spelled : List (Option Marked) → Bool
 are_spelled ms = list_all is_spelled ms
 
--- whether a mark is of a word that is offered
-abbrev pub is_of : Offer → Option Marked → Bool
-is_of o None = true
-is_of o (Some m) = nat_le o.first m.frame && nat_lt m.frame o.end
-
--- whether a player's mark is, if it has one
-abbrev pub is_placed : List Offer → List (Option Marked) → ℕ → Bool
-is_placed offers ms p =
-    is_of (slice_index_or offers p (record { first = 0; end = 0 })) (slice_index_or ms p None)
-
--- whether all marks are of words that are offered
-unfoldable pub are_placed : List Offer → List (Option Marked) → Bool
-are_placed offers ms = list_all (is_placed offers ms) (range_with_len 0 PLAYER_LIMIT)
-
--- whether a turn has the words that it offers, and no more than fit, and marks of them that have a spelling
+-- whether a turn has the words that it offers, and no more than fit, and marks that have a spelling
 abbrev pub is_turn : Turn → Bool
 is_turn t =
     are_offers t.head.offers && (count_of t.head.offers == length t.words)
     && nat_le (length t.words) WORD_LIMIT
-    && (are_placed t.head.offers t.marks && are_spelled t.marks)
+    && are_spelled t.marks
 
 abbrev pub is_whole : Content → Bool
 is_whole (Greets h) = true
 is_whole (Plays t) = is_turn t
-is_whole Leaves = true
+is_whole (Leaves why) = true
 
 abbrev pub IsByte : ℕ → Type 0
 IsByte n = n < 256
@@ -251,8 +238,8 @@ abbrev pub IsHello : Hello → Type 0
 IsHello h =
     IsByte h.machines
     × (IsByte h.words × (((length h.owners ≡ PLAYER_LIMIT) × AllByRecursion IsByte h.owners)
-    × (IsLong h.settings × (IsLong h.draw × (IsLong h.echo
-    × (IsNumber h.patience × IsByte h.abilities))))))
+    × (IsLong h.settings × (IsLong h.opening × (IsLong h.draw × (IsLong h.echo
+    × (IsNumber h.patience × IsByte h.abilities)))))))
 
 abbrev pub IsClocks : Clocks → Type 0
 IsClocks c =
@@ -292,7 +279,6 @@ IsMarked m = IsNumber m.frame × IsMark m.mark
 pub record IsTurn (t : Turn) : Type 0 where
   pub head : IsHead t.head
   pub marks : (length t.marks ≡ PLAYER_LIMIT) × AllByRecursion (λ m. IfSome m IsMarked) t.marks
-  pub are_placed : are_placed t.head.offers t.marks ≡ true
   pub words : length t.words ≡ count_of t.head.offers
   pub few : count_of t.head.offers ≤ WORD_LIMIT
   pub are_words : AllByRecursion IsNumber t.words
@@ -300,7 +286,7 @@ pub record IsTurn (t : Turn) : Type 0 where
 abbrev pub IsContent : Content → Type 0
 IsContent (Greets h) = IsHello h
 IsContent (Plays t) = IsTurn t
-IsContent Leaves = ⊤
+IsContent (Leaves why) = IsByte why
 
 -- what has a spelling
 pub record Fits (m : Message) : Type 0 where

@@ -23,8 +23,10 @@ pub struct Hello {
     pub words: u8,
     /// The machine that owns each player, player 0 first; 255 if there is no such player.
     pub owners: [u8; PLAYER_LIMIT],
-    /// A digest of all else that both sides have to have alike: the game, its opening, the session's limits.
+    /// A digest of all else that both sides have to have alike, but for the opening state: the game, the session's limits.
     pub settings: u64,
+    /// A digest of the game's opening state.
+    pub opening: u64,
     /// The draw of the sender's opening, which isn't 0.
     pub draw: u64,
     /// The draw that it heard last of the receiver, 0 if none.
@@ -110,7 +112,7 @@ pub struct Head {
 pub struct Play {
     /// All but the words and their marks.
     pub head: Head,
-    /// Of each player the mark of one of its words that are offered here, player 0 first.
+    /// Of each player the mark of one of its words, whether that word is offered here or not, player 0 first.
     pub marks: [Option<Marked>; PLAYER_LIMIT],
     /// The words that are offered, 140 at most: player by player, each player's from frame to frame.
     pub words: ArrayVec<u32, WORD_LIMIT>,
@@ -138,7 +140,10 @@ pub enum Body {
     /// A turn of the match.
     Play(Play),
     /// The sender leaves the match: it is gone from now on.
-    Bye,
+    Bye {
+        /// Why it leaves: whatever the program says.
+        why: u8,
+    },
 }
 
 /// What a machine sends to another, 1,200 bytes at most.

@@ -28,9 +28,6 @@ pub enum WireFault {
     /// More than 140 words are offered.
     #[error("too many words")]
     TooMany,
-    /// A mark isn't of a word that is offered with it.
-    #[error("a mark without its word")]
-    Misplaced,
     /// A mark, where none is read.
     #[error("a mark, which nobody reads yet")]
     Mark,

@@ -4,7 +4,7 @@ ghost use Rattle.std.specs.List.{list_all, list_any};
 ghost use Rattle.std.specs.Int.{w32, w64};
 ghost use Rattle.roll_mesh.specs.declared.limits.TheConstants.{PLAYER_LIMIT};
 ghost use Rattle.roll_mesh.specs.declared.packet.Offer.{Offer};
-ghost use Rattle.roll_wire.specs.Spelling.{Fits, Message, are_placed, content, count_of, digits_limit, is_of, is_placed, message, spelling, turn};
+ghost use Rattle.roll_wire.specs.Spelling.{Fits, Message, content, count_of, digits_limit, message, spelling, turn};
 ghost use Rattle.roll_wire.specs.Reading.{Gives, all_of, bits, byte_at, clocks_at, content_at, counted_at, digits_at, envelope_at, flag_at, head_at, hello_at, is_over, is_unmarked, magic_at, mark_at, marked_at, marks_at, mask_at, masked_at, newcomer_at, no_offer, number_at, offer_at, optional_at, place_at, repeated, run_at, settled_at, short_at, turn_at, unmarked_of, view_at, within_at, word_at, words_at};
 ghost use Rattle.roll_wire.specs.declared.limits.TheConstants.{WORD_LIMIT};
 
@@ -319,6 +319,7 @@ fn hello_of(bytes: &[u8]) -> Result<(Hello, &[u8]), WireFault>
     let (words, rest) = byte_of(rest)?;
     let (owners, rest) = owners_of(rest)?;
     let (settings, rest) = u64_at(rest)?;
+    let (opening, rest) = u64_at(rest)?;
     let (draw, rest) = u64_at(rest)?;
     let (echo, rest) = u64_at(rest)?;
     let (patience, rest) = u32_at(rest)?;
@@ -328,6 +329,7 @@ fn hello_of(bytes: &[u8]) -> Result<(Hello, &[u8]), WireFault>
         words,
         owners,
         settings,
+        opening,
         draw,
         echo,
         patience,
@@ -479,8 +481,8 @@ fn player_mark_of(is_there: bool, bytes: &[u8]) -> Result<(Option<Marked>, &[u8]
 }
 
 #[tactic(auto, unfolding(crate::specs::Reading::masked_at))]
-fn all_marks_of(bytes: &[u8]) -> Result<([Option<Marked>; PLAYER_LIMIT], &[u8]), WireFault>
-    ensures { Gives (λ x. (x.0, x.1.now)) result (masked_at None (within_at marked_at) bytes.now) }
+fn marks_of(bytes: &[u8]) -> Result<([Option<Marked>; PLAYER_LIMIT], &[u8]), WireFault>
+    ensures { Gives (λ x. (x.0, x.1.now)) result (marks_at bytes.now) }
 {
     let (places, mut rest) = mask_of(bytes)?;
     let mut marks = [None; PLAYER_LIMIT];
@@ -488,45 +490,6 @@ fn all_marks_of(bytes: &[u8]) -> Result<([Option<Marked>; PLAYER_LIMIT], &[u8]),
         let (marked, after) = player_mark_of(places[player], rest)?;
         marks[player] = marked;
         rest = after;
-    }
-    Ok((marks, rest))
-}
-
-/// Whether a mark is of a word that is offered.
-fn is_of(offer: Offer, marked: Option<Marked>) -> bool
-    ensures { result ≡ is_of offer marked }
-{
-    match marked {
-        None => true,
-        Some(marked) => offer.first <= marked.frame && marked.frame < offer.end,
-    }
-}
-
-/// Whether all marks are.
-pub(crate) fn are_placed(
-    offers: &[Offer; PLAYER_LIMIT],
-    marks: &[Option<Marked>; PLAYER_LIMIT],
-) -> bool
-    ensures { result ≡ are_placed offers.now marks.now }
-{
-    for player in 0..PLAYER_LIMIT {
-        if !is_of(offers[player], marks[player]) {
-            return false;
-        }
-    }
-    true
-}
-
-#[tactic(auto, unfolding(crate::specs::Reading::marks_at))]
-fn marks_of<'a>(
-    offers: &[Offer; PLAYER_LIMIT],
-    bytes: &'a [u8],
-) -> Result<([Option<Marked>; PLAYER_LIMIT], &'a [u8]), WireFault>
-    ensures { Gives (λ x. (x.0, x.1.now)) result (marks_at offers.now bytes.now) }
-{
-    let (marks, rest) = all_marks_of(bytes)?;
-    if !are_placed(offers, &marks) {
-        return Err(WireFault::Misplaced);
     }
     Ok((marks, rest))
 }
@@ -540,7 +503,7 @@ fn play_of(bytes: &[u8]) -> Result<(Play, &[u8]), WireFault>
     if count > WORD_LIMIT {
         return Err(WireFault::TooMany);
     }
-    let (marks, rest) = marks_of(&head.offers, rest)?;
+    let (marks, rest) = marks_of(rest)?;
     let (words, rest) = words_of(count, rest)?;
     let play = Play { head, marks, words };
     Ok((play, rest))
@@ -560,7 +523,10 @@ fn body_of(bytes: &[u8]) -> Result<(Body, &[u8]), WireFault>
             let (play, rest) = play_of(rest)?;
             Ok((Body::Play(play), rest))
         }
-        [2, rest @ ..] => Ok((Body::Bye, rest)),
+        [2, rest @ ..] => {
+            let (why, rest) = byte_of(rest)?;
+            Ok((Body::Bye { why }, rest))
+        }
         [_, ..] => Err(WireFault::Kind),
     }
 }
@@ -616,7 +582,7 @@ fn is_unmarked(body: &Body) -> bool
 {
     match body {
         Body::Play(play) => are_none(&play.marks),
-        Body::Hello(_) | Body::Bye => true,
+        Body::Hello(_) | Body::Bye { .. } => true,
     }
 }
 

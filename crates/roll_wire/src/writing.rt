@@ -2,7 +2,7 @@
 ghost use Rattle.std.specs.Prelude.{◌≡◌, ℕ, ◌+◌, ◌*◌, ◌<◌, ◌≤◌, ◌^◌, slice_index, [], ◌∷◌, ◌++◌, length, map, drop, true, false, is_some, IfSome, IfNone};
 ghost use Rattle.std.specs.List.{AllByRecursion, flat_map};
 ghost use Rattle.arrayvec.specs.ArrayVec.{array_vec_len};
-ghost use Rattle.roll_wire.specs.Spelling.{Fits, IsByte, IsClocks, IsContent, IsEnvelope, IsHead, IsHello, IsLong, IsMark, IsMarked, IsNewcomer, IsNumber, IsOffer, IsSettled, IsTurn, are_offers, are_placed, are_spelled, body, byte, clocks, content, count_of, digits, digits_limit, envelope, flag, has_players, head, hello, is_counted, is_offer, is_offered, is_spelled, is_turn, is_whole, long, mark, marked, marks, mask, masked, message, newcomer, number, offer, optional, pending, present, repeats, rest_of, runs, settled, short, spelling, turn, view, within};
+ghost use Rattle.roll_wire.specs.Spelling.{Fits, IsByte, IsClocks, IsContent, IsEnvelope, IsHead, IsHello, IsLong, IsMark, IsMarked, IsNewcomer, IsNumber, IsOffer, IsSettled, IsTurn, are_offers, are_spelled, body, byte, clocks, content, count_of, digits, digits_limit, envelope, flag, has_players, head, hello, is_counted, is_offer, is_offered, is_spelled, is_turn, is_whole, long, mark, marked, marks, mask, masked, message, newcomer, number, offer, optional, pending, present, repeats, rest_of, runs, settled, short, spelling, turn, view, within};
 ghost use Rattle.roll_wire.specs.declared.limits.TheConstants.{DATAGRAM_LIMIT, WORD_LIMIT};
 ghost use Rattle.roll_mesh.specs.declared.limits.TheConstants.{MACHINE_LIMIT, PLAYER_LIMIT};
 
@@ -10,7 +10,7 @@ use crate::datagram::{
     Body, Clocks, Datagram, Envelope, Head, Hello, Mark, Marked, Newcomer, Play, Settled,
 };
 use crate::limits::{DATAGRAM_LIMIT, MAGIC, WORD_LIMIT};
-use crate::reading::{are_placed, count_of, has_any};
+use crate::reading::{count_of, has_any};
 use arrayvec::ArrayVec;
 use roll_mesh::{MACHINE_LIMIT, Offer, PLAYER_LIMIT, View};
 
@@ -305,7 +305,7 @@ fn put_owners(out: &mut Bytes, owners: &[u8; PLAYER_LIMIT])
 }
 
 fn put_hello(out: &mut Bytes, h: &Hello)
-    requires { length out.old.items + 39 ≤ DATAGRAM_LIMIT }
+    requires { length out.old.items + 47 ≤ DATAGRAM_LIMIT }
     ensures items { out.new.items ≡ out.old.items ++ hello h.now }
     ensures fits { IsHello h.now }
 {
@@ -313,6 +313,7 @@ fn put_hello(out: &mut Bytes, h: &Hello)
     put_byte(out, h.words);
     put_owners(out, &h.owners);
     put_u64(out, h.settings);
+    put_u64(out, h.opening);
     put_u64(out, h.draw);
     put_u64(out, h.echo);
     put_u32(out, h.patience);
@@ -505,18 +506,19 @@ fn put_body(out: &mut Bytes, b: &Body)
             put_byte(out, 1);
             put_play(out, play);
         }
-        Body::Bye => put_byte(out, 2),
+        Body::Bye { why } => {
+            put_byte(out, 2);
+            put_byte(out, *why);
+        }
     }
 }
 
-/// Whether a turn's offers are in order, as many words are offered as there are, and marks are of such words and have a
-/// spelling.
+/// Whether a turn's offers are in order, as many words are offered as there are, and its marks have a spelling.
 fn is_turn(play: &Play) -> bool
     ensures { result ≡ is_turn (turn play.now) }
 {
     are_offers(&play.head.offers)
         && count_of(&play.head.offers) == play.words.len()
-        && are_placed(&play.head.offers, &play.marks)
         && are_spelled(&play.marks)
 }
 
@@ -565,7 +567,7 @@ fn is_whole(b: &Body) -> bool
 {
     match b {
         Body::Play(play) => is_turn(play),
-        Body::Hello(_) | Body::Bye => true,
+        Body::Hello(_) | Body::Bye { .. } => true,
     }
 }
 
@@ -588,8 +590,8 @@ fn are_offers(offers: &[Offer; PLAYER_LIMIT]) -> bool
 }
 
 /// The one spelling of a datagram, 1,200 bytes at most: the greatest has 1,183. None if it has none: if it is a turn
-/// that has another number of words than it offers, that offers words that end before they begin, or that has a mark of a word that it
-/// doesn't offer, or one by which somebody is to come who is to own no player.
+/// that has another number of words than it offers, that offers words that end before they begin, or that has a mark by which somebody
+/// is to come who is to own no player.
 pub fn encode(datagram: &Datagram) -> Option<ArrayVec<u8, DATAGRAM_LIMIT>>
     ensures spelled { IfSome result (λ bytes. Fits (message datagram.now)
         × (bytes.items ≡ spelling (message datagram.now))) }

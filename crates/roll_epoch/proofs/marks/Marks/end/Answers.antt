@@ -6,7 +6,7 @@ use Rattle.roll_epoch.proofs.marks.Marks.end.Goals as goal
 
 pub loop-player-preserved : goal.loop-player-preserved
 loop-player-preserved c =
-    let known : Told = told c.args.self.now c.args.terms.now c.args.welcome.now c.args.left.now in
+    let known : Told = told c.args.self.now c.args.terms.now c.args.left.now in
     let i = c.loop-player.player in
     let best = c.loop-player.ending in
     subst (λ (e : Option Ending). Best known c.args.settled (i + 1) e)

@@ -1,7 +1,7 @@
 use Rattle.std.proofs.Common.{◌≡◌, ◌∙◌, ap, refl, subst, sym, Ok, Some}
-use Rattle.roll_wire.specs.Spelling.{content, turn, Greets, Plays}
+use Rattle.roll_wire.specs.Spelling.{content, turn, Greets, Leaves, Plays}
 use Rattle.roll_viewer.specs.Ends.{ignored_by_viewer, unheard_by_viewer, HearsRows, ViewerHears, Viewing}
-use Rattle.roll_viewer.specs.Lines.{after_hello, opened, IsSealedFor}
+use Rattle.roll_viewer.specs.Lines.{after_bye, after_hello, opened, IsSealedFor}
 use Rattle.roll_wire.specs.declared.datagram.Body.{Body}
 use Rattle.roll_viewer.specs.declared.line.Line.{Line}
 use Rattle.roll_viewer.proofs.Answered.{if_err, if_ok, on_ok}
@@ -60,3 +60,15 @@ returns-in-Play-clause-accepted c =
     ∙ heard)
     c.hear_play.ensures.accepted
     )
+
+pub returns-in-Bye-clause-received : goal.returns-in-Bye-clause-received
+returns-in-Bye-clause-received c = rw (← c.self.view_is) (record {
+  what = Leaves c.in-Bye.why;
+  is_opened = c.in_ok-hello.ensures.opened ∙ ap (λ b. Ok (content b)) c.in-Bye.is;
+  is_sealed = subst (λ (b : Body). IsSealedFor c.self.inside.line c.args.bytes.now (content b)) c.in-Bye.is c.in_ok-hello.ensures.sealed;
+  hears = (
+    ap (λ (line : Line). record { line = line; rows = c.self.inside.rows; settled = c.self.inside.settled })
+        (c.end.ensures ∙ ap (λ (line : Line). after_bye line) c.in_ok-hello.ensures.same),
+    refl,
+  );
+})

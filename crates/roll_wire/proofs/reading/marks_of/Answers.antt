@@ -3,7 +3,7 @@ use Rattle.std.proofs.lemmas.Result.{err_from_is_err_and}
 use Rattle.roll_mesh.specs.declared.limits.TheConstants.{PLAYER_LIMIT}
 use Rattle.roll_wire.specs.Reading.{marked_at, masked_at, within_at}
 use Rattle.roll_wire.proofs.Loop.{places_go_on, places_end, places_done}
-use Rattle.roll_wire.proofs.reading.all_marks_of.Goals as goal
+use Rattle.roll_wire.proofs.reading.marks_of.Goals as goal
 
 pub loop-player-preserved : goal.loop-player-preserved
 loop-player-preserved c =
