@@ -1,11 +1,10 @@
 -- Who holds up a match.
 use Rattle.std.proofs.Common.{◌≡◌, ◌∙◌, ◌≤◌, ◌+◌, ℕ, suc, List, Bool, true, false, Some, None, refl, arith}
 use Rattle.std.specs.List.{list_all, range_with_len}
-use Rattle.std.specs.Prelude.{◌==◌, ◌&&◌, not, is_none, is_some, max, min, if◌then◌else◌, nat_lt, slice_index}
-use Rattle.std.proofs.lemmas.Bool.{and_right, le-ltb, not_from_true, or_from}
-use Rattle.roll_mesh.specs.HoldingUp.{could_give, fewest_of, given_by, held_up_by, holds_up, is_open_at, keeps_open, least_some, most_of, Waits, WaitersHoldUpNobody}
+use Rattle.std.specs.Prelude.{◌==◌, ◌&&◌, ◌||◌, not, is_none, is_some, max, min, if◌then◌else◌, nat_lt, slice_index}
+use Rattle.std.proofs.lemmas.Bool.{le-ltb, not_from_true, or_from}
+use Rattle.roll_mesh.specs.HoldingUp.{are_clear, could_give, fewest_of, given_by, held_up_by, holds_up, is_clear, is_open_at, keeps_open, least_some, most_of, Waits, WaitersHoldUpNobody}
 use Rattle.roll_mesh.specs.Machines.{is_fenced, left_at, owner_of, told_by}
-use Rattle.roll_mesh.specs.declared.holding_up.TheConstants.{DELAY_ROOM}
 use Rattle.roll_mesh.specs.declared.limits.TheConstants.{PLAYER_LIMIT}
 use Rattle.roll_mesh.specs.declared.machine.Machine.{Machine}
 use Rattle.roll_mesh.specs.declared.packet.View.{View}
@@ -49,19 +48,29 @@ kept seat here threshold m view w =
     let own : ℕ = given_by seat here m view in
     let all : own ≡ most_of seat view.has m PLAYER_LIMIT = least (most_of seat here.has m PLAYER_LIMIT) (most_of seat view.has m PLAYER_LIMIT) w.came in
     let has : ℕ = slice_index view.has w.player in
-    let few : w.delay ≤ 8 = w.few in
     let more : nat_lt own (has + threshold) ≡ false = le-ltb own (has + threshold) (omega (arith, all, w.all_given)) in
-    let near : nat_lt (has + threshold + DELAY_ROOM) own ≡ false = le-ltb (has + threshold + DELAY_ROOM) own (omega (arith, all, w.all_given, few)) in
+    let here_still : is_some (left_at here w.player) ≡ false = rw w.stays refl in
     or_from (not (nat_lt (owner_of seat w.player) seat.machines)) (is_open_at here threshold own view.has w.player)
     (not_from_true (nat_lt (owner_of seat w.player) seat.machines) w.plays)
-    (or_from (nat_lt own (has + threshold)) (is_some (left_at here w.player) && nat_lt (has + threshold + DELAY_ROOM) own)
-    more (and_right (is_some (left_at here w.player)) (nat_lt (has + threshold + DELAY_ROOM) own) near))
+    (or_from (nat_lt own (has + threshold)) (is_some (left_at here w.player)) more here_still)
 
 -- what the test says
 pub could_is : (seat : Seat) (here : Machine) (threshold m : ℕ) (view : View) → could_give seat here threshold m view
     ≡ list_all (keeps_open seat here threshold (given_by seat here m view) view.has) (range_with_len 0 PLAYER_LIMIT)
 unfolding could_give
 could_is seat here threshold m view = refl
+
+pub clear_is : (seat : Seat) (here : Machine) (threshold m : ℕ) (view : View) → are_clear seat here threshold m view
+    ≡ list_all (is_clear seat here threshold m (given_by seat here m view) view.has) (range_with_len 0 PLAYER_LIMIT)
+unfolding are_clear
+clear_is seat here threshold m view = refl
+
+pub not_or_left : (a b : Bool) → a ≡ true → not (a || b) ≡ false
+not_or_left a b holds = rw holds refl
+
+pub not_or_right : (a b : Bool) → b ≡ true → not (a || b) ≡ false
+not_or_right true b holds = refl
+not_or_right false b holds = rw holds refl
 
 pub waiters_hold_up_nobody : WaitersHoldUpNobody
 waiters_hold_up_nobody seat here threshold m view told w =

@@ -1,6 +1,6 @@
 //! Who holds up a match.
-ghost use Rattle.std.specs.Prelude.{◌≡◌, ◌<◌};
-ghost use Rattle.roll_mesh.specs.HoldingUp.{awaited, could_give, fewest_of, given_by, holds_up, is_open_at, least_some, most_of};
+ghost use Rattle.std.specs.Prelude.{◌≡◌, ◌<◌, Some};
+ghost use Rattle.roll_mesh.specs.HoldingUp.{are_clear, awaited, could_give, fewest_of, given_by, holds_up, is_free, is_leaving, is_open_at, knows_more, lacked_of, lacks, least_some, most_of};
 ghost use Rattle.roll_mesh.specs.declared.limits.TheConstants.{PLAYER_LIMIT};
 
 use crate::limits::PLAYER_LIMIT;
@@ -31,6 +31,50 @@ impl Mesh {
             _ => None,
         }
     }
+
+    /// How many words of this machine's players another says that it has, if that is fewer than there are. None also if the machine is
+    /// gone, this one, or has told nothing yet.
+    #[tactic(auto, unfolding(crate::specs::HoldingUp::lacks))]
+    pub fn lacks(&self, machine: u8) -> Option<u32>
+        ensures { result ≡ lacks self.now.seat self.now.machine machine }
+    {
+        let here = self.machine();
+        let seat = self.seat();
+        if here.is_fenced(seat, machine) {
+            return None;
+        }
+        match here.told_by(machine) {
+            Some(view) => lacked_of(seat, most_of(seat, &here.has, seat.me), &view),
+            None => None,
+        }
+    }
+
+    /// Whether nothing can keep a machine from going on that this one doesn't see: a mark that isn't known here yet, or that it doesn't
+    /// know yet that all agree on who has left.
+    #[tactic(auto, unfolding(crate::specs::HoldingUp::is_free))]
+    pub fn is_free(&self, machine: u8, threshold: u32) -> bool
+        ensures { result ≡ is_free self.now.seat self.now.machine threshold machine }
+    {
+        match self.machine().told_by(machine) {
+            Some(view) => are_clear(self.seat(), self.machine(), &view, machine, threshold),
+            None => true,
+        }
+    }
+
+    /// How many words there are of another machine's players, at most.
+    pub fn given(&self, machine: u8) -> u32
+        ensures { result ≡ most_of self.now.seat self.now.machine.has machine PLAYER_LIMIT }
+    {
+        most_of(self.seat(), &self.machine().has, machine)
+    }
+}
+
+/// Of so many words of this machine's players how many one has that told this, if it lacks some.
+fn lacked_of(seat: &Seat, own: u32, view: &View) -> Option<u32>
+    ensures { result ≡ lacked_of seat.now own (Some view.now) }
+{
+    let theirs = most_of(seat, &view.has, seat.me);
+    if theirs < own { Some(theirs) } else { None }
 }
 
 /// The most words that there are of a machine's players.
@@ -94,8 +138,7 @@ fn is_open_at(
     ensures { result ≡ is_open_at here.now threshold own has.now player }
 {
     let end = u64::from(has[player]) + u64::from(threshold);
-    u64::from(own) < end
-        || here.left_at(player as u8).is_some() && end + DELAY_ROOM < u64::from(own)
+    u64::from(own) < end || here.left_at(player as u8).is_some()
 }
 
 /// How many words of its own a machine has given, which told this: as many as it says that it has, and no more than came here.
@@ -113,6 +156,51 @@ fn could_give(seat: &Seat, here: &Machine, view: &View, machine: u8, threshold: 
     for player in 0..PLAYER_LIMIT {
         if seat.owner_of(player) < seat.machines
             && !is_open_at(here, own, &view.has, player, threshold)
+        {
+            return false;
+        }
+    }
+    true
+}
+
+/// Whether a machine that told this has more words than are here of a third one's player.
+fn knows_more(
+    seat: &Seat,
+    here: &Machine,
+    machine: u8,
+    has: &[u32; PLAYER_LIMIT],
+    player: usize,
+) -> bool
+    requires { player < PLAYER_LIMIT }
+    ensures { result ≡ knows_more seat.now here.now machine has.now player }
+{
+    let owner = seat.owner_of(player);
+    owner != seat.me && owner != machine && here.has[player] < has[player]
+}
+
+/// Whether a player has left here, and who has so many words of its own hasn't gone on since.
+fn is_leaving(
+    here: &Machine,
+    own: u32,
+    has: &[u32; PLAYER_LIMIT],
+    player: usize,
+    threshold: u32,
+) -> bool
+    requires { player < PLAYER_LIMIT }
+    ensures { result ≡ is_leaving here.now threshold own has.now player }
+{
+    let end = u64::from(has[player]) + u64::from(threshold) + DELAY_ROOM;
+    here.left_at(player as u8).is_some() && u64::from(own) <= end
+}
+
+/// Whether no player can keep a machine that told this from going on without this one seeing it.
+fn are_clear(seat: &Seat, here: &Machine, view: &View, machine: u8, threshold: u32) -> bool
+    ensures { result ≡ are_clear seat.now here.now threshold machine view.now }
+{
+    let own = given_by(seat, here, view, machine);
+    for player in 0..PLAYER_LIMIT {
+        if knows_more(seat, here, machine, &view.has, player)
+            || is_leaving(here, own, &view.has, player, threshold)
         {
             return false;
         }
