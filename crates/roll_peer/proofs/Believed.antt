@@ -64,7 +64,7 @@ named_kind number bytes long =
 abbrev kind_of : Content → ℕ
 kind_of (Greets hello) = 0
 kind_of (Plays t) = 1
-kind_of Leaves = 2
+kind_of (Leaves why) = 2
 
 spelled_kind : (m : Message) → get_or (spelling m) 13 0 ≡ kind_of m.content
 spelled_kind m = go m.content refl
@@ -72,7 +72,7 @@ spelled_kind m = go m.content refl
     go : (c : Content) → m.content ≡ c → get_or (spelling m) 13 0 ≡ kind_of m.content
     go (Greets hello) e = rw e refl
     go (Plays t) e = rw e refl
-    go Leaves e = rw e refl
+    go (Leaves why) e = rw e refl
 
 -- ---- what is opened
 
@@ -132,7 +132,7 @@ opened_kind takes_marks key bytes what fits e = go (unsealed key bytes) refl e
 not_zero : (what : Content) → is_greeting what ≡ false → kind_of what ≡ 0 → ⊥
 not_zero (Greets hello) g e = absurd cc
 not_zero (Plays t) g e = omega (arith, e)
-not_zero Leaves g e = omega (arith, e)
+not_zero (Leaves why) g e = omega (arith, e)
 
 pub nothing_else_is_heard : NothingElseIsHeard
 nothing_else_is_heard peer bytes what fits e plays =

@@ -1,5 +1,5 @@
 -- How many of the first so many pass a test: none of none, and one more if the next one does.
-use Rattle.std.proofs.Common.{◌≡◌, ◌⊎◌, inl, inr, ℕ, zero, suc, ◌+◌, ◌<◌, ◌≤◌, Bool, true, false, None, Some, refl, subst, arith}
+use Rattle.std.proofs.Common.{◌≡◌, ◌⊎◌, inl, inr, ℕ, zero, suc, ◌+◌, ◌<◌, ◌≤◌, Bool, true, false, None, Some, refl, subst, sym, arith}
 use Rattle.std.specs.Prelude.{if◌then◌else◌}
 use Rattle.std.specs.List.{filter, range_with_len, slice_get}
 use Rattle.std.proofs.lemmas.Bool.{cases_eq}
@@ -16,6 +16,15 @@ pub count_next : (test : ℕ → Bool) (n : ℕ)
     → count_of test (n + 1) ≡ count_of test n + (if test n then 1 else 0)
 unfolding count_of
 count_next test n = rw (after n) refl
+
+-- what passes, or fails, for all of the first so many, and for the next
+pub all_next : (test : ℕ → Bool) (n : ℕ) (b : Bool) → ((m : ℕ) → m < n → test m ≡ b) → test n ≡ b
+    → (m : ℕ) → m < n + 1 → test m ≡ b
+all_next test n b before here m l = go (cases_eq m n)
+  where
+    go : (m ≡ n) ⊎ (m ≡ n → ⊥) → test m ≡ b
+    go (inl same) = subst (λ (k : ℕ). test k ≡ b) (sym same) here
+    go (inr other) = before m (omega (arith, l, other))
 
 -- the first number from one on, of so many, that passes a test
 first_from : (test : ℕ → Bool) (a n k : ℕ) → a ≤ k → k < a + n → test k ≡ true

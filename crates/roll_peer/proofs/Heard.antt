@@ -14,6 +14,7 @@ use Rattle.roll_session.specs.Seen.{Seen, Step}
 use Rattle.roll_wire.specs.Spelling.{Turn}
 use Rattle.roll_peer.specs.Judging.{are_its_machines, are_its_players, are_no_more, is_inside}
 use Rattle.roll_peer.specs.CutOffs.{over_if}
+use Rattle.roll_peer.specs.Disputes.{disputed}
 use Rattle.roll_peer.specs.Peered.{beside, contact_at, Peered}
 use Rattle.roll_contact.specs.declared.contact.Contact.{Contact}
 use Rattle.roll_peer.specs.Receiving.{after_words, deaf_to, end_for, is_dropped, knowing, marks_after, moment_of, packet_of, unplayed, HearsTurn}
@@ -73,13 +74,13 @@ pub turn_heard : (step : Step) (before after : Seen) (old mid known new : Peered
     → mid ≡ record old { member = mid.member; marks = marks_after old mid.member t }
     → mid.member.limits ≡ old.member.limits
     → known ≡ knowing t sender
-    (after_words (is_some taken.refusal) t.head before.core.frame (moment_of mid) (contact_at mid sender)) mid
-    → new ≡ over_if (is_dropped taken.heard) known
+    (after_words (is_some taken.refusal) (is_dropped taken.heard) t.head before.core.frame (moment_of mid) (contact_at mid sender)) mid
+    → new ≡ over_if (is_dropped taken.heard) (disputed sender t known)
     → HearsTurn step before after old new sender t taken
 turn_heard step before after old mid known new sender t taken hears rest limits knows tells =
     let contact : Peered → Contact =
-    λ p. after_words (is_some taken.refusal) t.head before.core.frame (moment_of p) (contact_at p sender) in
-    let last : Peered → Peered = over_if (is_dropped taken.heard) in
+    λ p. after_words (is_some taken.refusal) (is_dropped taken.heard) t.head before.core.frame (moment_of p) (contact_at p sender) in
+    let last : Peered → Peered = λ p. over_if (is_dropped taken.heard) (disputed sender t p) in
     let whole : new ≡ last (knowing t sender (contact mid) mid) = tells ∙ ap last knows in
     subst (λ (p : Peered). HearsTurn step before after old p sender t taken) (sym whole)
     (record {

@@ -21,5 +21,6 @@ pub mod Mirrors
 pub mod Alike
 pub mod GoneFirst
 pub mod Keeping
+pub mod Nearest
 pub mod Noted
 pub mod OneMark

@@ -4,14 +4,13 @@ use Rattle.std.specs.Option.{option_or}
 use Rattle.std.specs.Prelude.{nat_le, nat_lt, ◌&&◌, if◌then◌else◌, slice_index, slice_index_or, slice_set}
 use Rattle.std.proofs.lemmas.Bool.{and_from, and_parts}
 use Rattle.std.proofs.lemmas.List.FromFn.{get_or-map-range_with_len, length-map-range_with_len}
-use Rattle.roll_mesh.proofs.Places.{all_until}
 use Rattle.roll_mesh.specs.Machines.{none_offered}
 use Rattle.roll_mesh.specs.declared.limits.TheConstants.{PLAYER_LIMIT}
 use Rattle.roll_mesh.specs.declared.packet.Offer.{Offer}
 use Rattle.roll_wire.proofs.Wholes.{fits_whole, parts_of}
-use Rattle.roll_wire.specs.Spelling.{are_placed, are_spelled, is_of, is_placed, is_spelled, Content, Greets, IsContent, Leaves, Plays}
+use Rattle.roll_wire.specs.Spelling.{are_spelled, is_spelled, Content, Greets, IsContent, Leaves, Plays}
 use Rattle.roll_wire.specs.declared.datagram.Marked.{Marked}
-use Rattle.roll_peer.specs.Marks.{each_player, if_offered, if_there, is_spelled_in, kept_with, mark_at, offered_at, offered_marks, told_with, unless_there}
+use Rattle.roll_peer.specs.Marks.{each_player, if_offered, if_there, is_spelled_in, kept_with, mark_at, offered_at, offered_marks, told_mark, told_marks, told_with, unless_there}
 
 -- ---- lists of marks
 
@@ -92,27 +91,17 @@ offered_all_spelled offers known k =
     each_spelled (offered_at offers known) (λ p.
     offered_spelled (slice_index_or offers p none_offered) (mark_at known p) (spelled_at known p k))
 
-placed_so : (o : Offer) (m : Marked) (b : Bool) → (nat_le o.first m.frame && nat_lt m.frame o.end) ≡ b
-    → is_of o (if b then Some m else None) ≡ true
-placed_so o m true e = e
-placed_so o m false e = refl
-
-offered_placed : (o : Offer) (m : Option Marked) → is_of o (if_offered o m) ≡ true
-offered_placed o None = refl
-offered_placed o (Some m) = placed_so o m (nat_le o.first m.frame && nat_lt m.frame o.end) refl
-
--- what is told of marks is of words that are offered
-pub offered_all_placed : (offers : List Offer) (known : List (Option Marked))
-    → are_placed offers (offered_marks offers known) ≡ true
-unfolding are_placed
-offered_all_placed offers known =
-    all_until (is_placed offers (offered_marks offers known)) PLAYER_LIMIT PLAYER_LIMIT (omega arith) (λ p l.
-    ap (λ m. is_of (slice_index_or offers p none_offered) m) (each_at (offered_at offers known) p l)
-    ∙ offered_placed (slice_index_or offers p none_offered) (mark_at known p))
+pub told_all_spelled : (offers : List Offer) (has : List ℕ) (known : List (Option Marked)) → are_spelled known ≡ true
+    → are_spelled (told_marks offers has known) ≡ true
+told_all_spelled offers has known k =
+    each_spelled (told_mark offers has known) (λ p.
+    either_spelled (if_offered (slice_index_or offers p none_offered) (mark_at known p)) (if_there (slice_index has p) (mark_at known p))
+    (offered_spelled (slice_index_or offers p none_offered) (mark_at known p) (spelled_at known p k))
+    (there_spelled (slice_index has p) (mark_at known p) (spelled_at known p k)))
 
 -- ---- what is read
 
 pub spelled_in : (what : Content) → IsContent what → is_spelled_in what ≡ true
 spelled_in (Greets hello) h = refl
 spelled_in (Plays t) h = (parts_of t (fits_whole (Plays t) h)).spelled
-spelled_in Leaves h = refl
+spelled_in (Leaves why) h = refl

@@ -309,7 +309,7 @@ module _ (match : Match) (world : WordWorld) (i : ℕ) (from : IsFrom match worl
       subst (λ (s : Seen). Stands match world i s new) (sym hears.1)
       (stands_as match world i from there before old new (ap (λ (p : Peered). p.member.mesh) hears.2)
       (ap (λ (p : Peered). p.settings) hears.2) stands)
-  hears_content step before after old new bytes Leaves (ByeHeard sender) opens was hears stands =
+  hears_content step before after old new bytes (Leaves why) (ByeHeard sender) opens was hears stands =
       let gone = stands_left match world i from there before old (sender_of bytes) stands in
       subst (λ (s : Seen). Stands match world i s new) (sym hears.1)
       (stands_as match world i from there before _ new (ap (λ (p : Peered). p.member.mesh) hears.2)
@@ -318,8 +318,8 @@ module _ (match : Match) (world : WordWorld) (i : ℕ) (from : IsFrom match worl
   hears_content step before after old new bytes (Greets hello) (ByeHeard sender) opens was hears stands = absurd hears
   hears_content step before after old new bytes (Plays t) (HelloHeard sender) opens was hears stands = absurd hears
   hears_content step before after old new bytes (Plays t) (ByeHeard sender) opens was hears stands = absurd hears
-  hears_content step before after old new bytes Leaves (HelloHeard sender) opens was hears stands = absurd hears
-  hears_content step before after old new bytes Leaves (PlayHeard sender taken) opens was hears stands = absurd hears
+  hears_content step before after old new bytes (Leaves why) (HelloHeard sender) opens was hears stands = absurd hears
+  hears_content step before after old new bytes (Leaves why) (PlayHeard sender taken) opens was hears stands = absurd hears
 
   ignored_stands : (s : Seen) (old new : Peered) (bytes : List ℕ) (why : Ignored) → IsIgnored s old new bytes why
       → Stands match world i s old → Stands match world i s new
@@ -370,7 +370,7 @@ module _ (match : Match) (world : WordWorld) (i : ℕ) (from : IsFrom match worl
       now : Stands match world i b.session b.peer
       now = subst (λ (x : Seen). Stands match world i x b.peer) (sym session)
           (stands_as match world i from there s peer b.peer same.0 same.1 stands)
-  said_content b s peer m bytes Leaves stands fits spelled text session same = absurd fits
+  said_content b s peer m bytes (Leaves why) stands fits spelled text session same = absurd fits
 
   -- what a call makes of a machine
   acts : (step : Step) (sent : List (List ℕ)) (deed : Deed) (old new : Beside) → FollowsLog step old.session
@@ -415,19 +415,19 @@ module _ (match : Match) (world : WordWorld) (i : ℕ) (from : IsFrom match worl
       silent match world i from there new
       (subst (λ (b : Beside). Stands match world i b.session b.peer) (λ k. record { session = sym does.1 k; peer = sym does.0 k })
       (ticked old.session now old.peer stands))
-  acts step sent (SaysBye machine bytes) old new follows was does stands =
+  acts step sent (SaysBye machine why bytes) old new follows was does stands =
       other_said match world i from there new bytes
       (subst (λ (b : Beside). Stands match world i b.session b.peer) (sym does.2) stands)
       (λ w. record {
-        key = key_for old.peer machine Leaves;
+        key = key_for old.peer machine (Leaves why);
         sender = old.peer.settings.me;
-        what = Leaves;
-        text = does.0 ∙ text_is old.peer machine Leaves;
+        what = Leaves why;
+        text = does.0 ∙ text_is old.peer machine (Leaves why);
         fits = does.1;
         told = λ t e. absurd (no_play t e);
       })
     where
-      no_play : (t : Turn) → Leaves ≡ Plays t → ⊥
+      no_play : (t : Turn) → Leaves why ≡ Plays t → ⊥
       no_play t e = cc
   acts step sent (Disconnects machine) old new follows was does stands =
       silent match world i from there new

@@ -1,10 +1,10 @@
 -- Each event names a machine of the match.
 use Rattle.std.proofs.Common.{◌≡◌, ◌∙◌, ◌≤◌, ℕ, zero, suc, List, [], ◌∷◌, length, drop, refl, sym, subst, arith, Bool, true, false, Option, Some, None}
-use Rattle.std.specs.Prelude.{◌==◌, ◌&&◌, not, nat_le, nat_lt, if◌then◌else◌, All, IfSome}
+use Rattle.std.specs.Prelude.{◌==◌, ◌&&◌, is_some, not, nat_le, nat_lt, if◌then◌else◌, All, IfSome}
 use Rattle.std.specs.Option.{option_map}
 use Rattle.std.proofs.lemmas.Bool.{leb-false, lt-ltb}
 use Rattle.std.proofs.lemmas.List.Elements.{All-push, All-tail}
-use Rattle.roll_contact.specs.Contacts.{refused}
+use Rattle.roll_contact.specs.Contacts.{heard_too, refused}
 use Rattle.roll_contact.specs.declared.contact.Contact.{Contact}
 use Rattle.roll_contact.specs.declared.contact.Stage.{Stage}
 use Rattle.roll_contact.specs.declared.contact.Stage.TheVariants.{Silent, Greeted, Playing, Mismatched}
@@ -14,22 +14,20 @@ use Rattle.roll_mesh.proofs.Changes.{none_some}
 use Rattle.roll_mesh.specs.declared.limits.TheConstants.{PLAYER_LIMIT}
 use Rattle.roll_session.specs.Seen.{Seen, Step}
 use Rattle.roll_wire.specs.Spelling.{Content, Greets, Leaves, Plays}
-use Rattle.roll_wire.specs.declared.datagram.Settled.{Settled}
 use Rattle.roll_peer.specs.Events.{pushed}
-use Rattle.roll_peer.specs.Following.{heard_beside}
+use Rattle.roll_peer.specs.Disputes.{dispute_at, dispute_told, disputed, found_two, newly_found}
+use Rattle.roll_peer.specs.Following.{dispute_beside, heard_beside}
 use Rattle.roll_peer.specs.Laws.{AreNamed, EventsNameMachines, IsNamed}
-use Rattle.roll_peer.specs.Notices.{after_heard, came, desync, differs, found_out, mismatched, newly, only_if, player_left, refusing, restarting, resumed, told, told_of}
-use Rattle.roll_peer.specs.Digests.{digest_at}
+use Rattle.roll_peer.specs.Notices.{after_heard, came, found_out, mismatched, newly, only_if, player_left, refusing, restarting, resumed, told, told_of}
 use Rattle.roll_peer.specs.Paces.{wait_of}
 use Rattle.roll_peer.specs.Peered.{contact_at, Peered}
-use Rattle.roll_peer.specs.Receiving.{after_ignored, ignored, ignored_sized, is_refusal, is_sized, refused_of, sender_of, Hears}
+use Rattle.roll_peer.specs.Receiving.{after_ignored, after_words, ignored, ignored_sized, is_dropped, is_refusal, is_sized, knowing, knowing_of, marks_after, moment_of, refused_of, sender_of, Hears}
 use Rattle.roll_peer.specs.Sending.{is_lost}
 use Rattle.roll_peer.specs.CutOffs.{cut_off_since, hears_most, most_noted}
-use Rattle.roll_peer.specs.Turning.{farewell_until, hushed_until, lead_in, looked_after, missed_until, moved_to, over, silenced_until, stall_ended, stall_told, strangers_told, timed, watched_until, Polls}
+use Rattle.roll_peer.specs.Turning.{desync_in, desync_told, desync_until, farewell_until, hushed_until, lead_in, looked_after, missed_until, moved_to, over, silenced_until, stall_ended, stall_told, strangers_told, timed, watched_at, watched_until, Polls}
 use Rattle.roll_peer.specs.Waiting.{Waiting}
-use Rattle.roll_peer.specs.declared.digests.Digests.{Digests}
 use Rattle.roll_peer.specs.declared.event.PeerEvent.{PeerEvent}
-use Rattle.roll_peer.specs.declared.event.PeerEvent.TheVariants.{Dropped, TimeSync}
+use Rattle.roll_peer.specs.declared.event.PeerEvent.TheVariants.{Dropped, TimeSync, TwoMarks}
 use Rattle.roll_peer.specs.declared.event.TheConstants.{EVENT_LIMIT}
 use Rattle.roll_peer.specs.declared.received.Ignored.{Ignored}
 use Rattle.roll_peer.specs.declared.received.Ignored.TheVariants.{InvalidMachine, NotSealed}
@@ -96,9 +94,22 @@ module _ (n : ℕ) where
         (only_named _ _ l))
         (only_named _ _ l)
 
-    desync_named : (digests : Digests) (settled : Option Settled) → IfSome (desync digests m settled) (IsNamed n)
-    desync_named digests None = tt
-    desync_named digests (Some settled) = only_named (differs settled.digest (digest_at digests settled.frame)) _ l
+  either : (b : Bool) (p q : Peered) → AreNamed n p.waiting → AreNamed n q.waiting
+      → AreNamed n (if b then p else q).waiting
+  either true p q h k = h
+  either false p q h k = k
+
+  two_named : (m : ℕ) (before player : Option ℕ) → nat_lt m n ≡ true
+      → IfSome (option_map (TwoMarks m) (newly_found before player)) (IsNamed n)
+  two_named m None None l = tt
+  two_named m None (Some player) l = l
+  two_named m (Some before) player l = tt
+
+  dispute_named : (m : ℕ) (player : Option ℕ) (peer : Peered) → nat_lt m n ≡ true → AreNamed n peer.waiting
+      → AreNamed n (dispute_told m player peer).waiting
+  dispute_named m player peer l h =
+      told_named peer.waiting (option_map (TwoMarks m) (newly_found (dispute_at peer m) player)) h
+      (two_named m (dispute_at peer m) player l)
 
   -- ---- what is heard
 
@@ -165,20 +176,23 @@ module _ (n : ℕ) where
     hearing_named step before after new (Greets hello) (HelloHeard from) h l hears =
         subst (λ (p : Peered). AreNamed n p.waiting) (sym hears.2) (heard_named (sender_of bytes) l _ _ old.waiting h)
     hearing_named step before after new (Plays t) (PlayHeard from taken) h l hears =
+        let m : ℕ = sender_of bytes in
+        let contact : Contact =
+        after_words (is_some taken.refusal) (is_dropped taken.heard) t.head before.core.frame (moment_of old) (contact_at old m) in
+        let known : Peered =
+        knowing t m contact (record old { member = new.member; marks = marks_after old new.member t }) in
         subst (λ (p : Peered). AreNamed n p.waiting) (sym hears.1.rest)
-        (told_named _ _
-        (told_named _ (desync old.digests (sender_of bytes) t.head.settled)
-        (heard_named (sender_of bytes) l _ _ old.waiting h)
-        (desync_named (sender_of bytes) l old.digests t.head.settled))
-        (only_named _ Dropped tt))
-    hearing_named step before after new Leaves (ByeHeard from) h l hears =
+        (told_named (disputed m t known).waiting (only_if (is_dropped taken.heard && not known.cut_off.is_over) Dropped)
+        (dispute_named m (found_two known t) known l (heard_named m l (contact_at old m) contact old.waiting h))
+        (only_named (is_dropped taken.heard && not known.cut_off.is_over) Dropped tt))
+    hearing_named step before after new (Leaves why) (ByeHeard from) h l hears =
         subst (λ (p : Peered). AreNamed n p.waiting) (sym hears.2) h
     hearing_named step before after new (Greets hello) (PlayHeard from taken) h l hears = absurd hears
     hearing_named step before after new (Greets hello) (ByeHeard from) h l hears = absurd hears
     hearing_named step before after new (Plays t) (HelloHeard from) h l hears = absurd hears
     hearing_named step before after new (Plays t) (ByeHeard from) h l hears = absurd hears
-    hearing_named step before after new Leaves (HelloHeard from) h l hears = absurd hears
-    hearing_named step before after new Leaves (PlayHeard from taken) h l hears = absurd hears
+    hearing_named step before after new (Leaves why) (HelloHeard from) h l hears = absurd hears
+    hearing_named step before after new (Leaves why) (PlayHeard from taken) h l hears = absurd hears
 
   -- ---- what is heard by another network
 
@@ -195,22 +209,23 @@ module _ (n : ℕ) where
             let less = leb-false old.member.mesh.seat.machines m e in
             lt-ltb m n (omega (arith, less, seated))
 
+    abbrev contact : Contact
+    contact = heard_too (contact_at other m) (moment_of old) (contact_at old m)
+
+    abbrev heard : Peered
+    heard = knowing_of m contact old
+
     beside_named : AreNamed n old.waiting → AreNamed n (heard_beside m other old).waiting
     beside_named h = go (is_lost old m) refl
       where
         go : (b : Bool) → is_lost old m ≡ b → AreNamed n (heard_beside m other old).waiting
         go true e = rw e h
-        go false e = rw e (heard_named m (inside e) _ _ old.waiting h)
+        go false e = rw e (dispute_named m (dispute_beside old other m) heard (inside e) (heard_named m (inside e) (contact_at old m) contact old.waiting h))
 
   -- ---- polls
 
   below : (m : ℕ) → suc m ≤ n → nat_lt m n ≡ true
   below m l = lt-ltb m n (omega (arith, l))
-
-  either : (b : Bool) (p q : Peered) → AreNamed n p.waiting → AreNamed n q.waiting
-      → AreNamed n (if b then p else q).waiting
-  either true p q h k = h
-  either false p q h k = k
 
   silenced_named : (now k : ℕ) (peer : Peered) → AreNamed n peer.waiting
       → AreNamed n (silenced_until now k peer).waiting
@@ -229,7 +244,7 @@ module _ (n : ℕ) where
 
   watched_named : (now k : ℕ) (peer : Peered) → k ≤ n → AreNamed n peer.waiting
       → AreNamed n (watched_until now k peer).waiting
-  unfolding watched_until
+  unfolding watched_until watched_at
   watched_named now zero peer l h = h
   watched_named now (suc m) peer l h =
       let before = watched_named now m peer (omega (arith, l)) h in
@@ -255,6 +270,19 @@ module _ (n : ℕ) where
   strangers_named now peer h =
       subst (λ (p : Peered). AreNamed n p.waiting) (sym (strangers_told_is now peer))
       (either _ _ _ (push_named peer.waiting _ h tt) h)
+
+  desync_named : (m : ℕ) (frame : Option ℕ) (peer : Peered) → nat_lt m n ≡ true → AreNamed n peer.waiting
+      → AreNamed n (desync_told m frame peer).waiting
+  desync_named m None peer l h = h
+  desync_named m (Some frame) peer l h = push_named peer.waiting _ h l
+
+  desyncs_named : (now k : ℕ) (peer : Peered) → k ≤ n → AreNamed n peer.waiting
+      → AreNamed n (desync_until now k peer).waiting
+  unfolding desync_until
+  desyncs_named now zero peer l h = h
+  desyncs_named now (suc m) peer l h =
+      let before : Peered = desync_until now m peer in
+      desync_named m (desync_in before now m) before (below m l) (desyncs_named now m peer (omega (arith, l)) h)
 
   farewell_named : (k : ℕ) (peer : Peered) → k ≤ n → AreNamed n peer.waiting
       → AreNamed n (farewell_until k peer).waiting
@@ -284,8 +312,8 @@ module _ (n : ℕ) where
       → AreNamed n (looked_after now n peer).waiting
   looked_named peer now h =
       let all : n ≤ n = omega arith in
-      farewell_named n _ all (strangers_named now _ (missed_named now n _ all (hushed_named now n _ all (watched_named now n _ all
-      (silenced_named now n (most_noted now peer) (most_named now peer h))))))
+      farewell_named n _ all (desyncs_named now n _ all (strangers_named now _ (missed_named now n _ all (hushed_named now n _ all
+      (watched_named now n _ all (silenced_named now n (most_noted now peer) (most_named now peer h)))))))
 
   time_named : (frames : Option ℕ) → IfSome (option_map TimeSync frames) (IsNamed n)
   time_named None = tt

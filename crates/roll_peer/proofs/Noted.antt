@@ -20,7 +20,7 @@ use Rattle.roll_wire.specs.Spelling.{Turn}
 use Rattle.roll_wire.specs.declared.datagram.Mark.{Mark}
 use Rattle.roll_wire.specs.declared.datagram.Marked.{Marked}
 use Rattle.roll_peer.specs.MarkLaws.{has_of, mark_for}
-use Rattle.roll_peer.specs.Marks.{if_offered, if_there, kept_at, mark_at, offered_at, offered_marks, told_at, unless_there}
+use Rattle.roll_peer.specs.Marks.{if_offered, if_offered_or_there, if_there, kept_at, mark_at, offered_at, offered_marks, told_at, told_mark, told_marks, unless_there}
 use Rattle.roll_peer.specs.Peered.{Peered}
 use Rattle.roll_peer.specs.Receiving.{marks_after, marks_told}
 use Rattle.roll_peer.proofs.Marked.{each_at}
@@ -50,11 +50,12 @@ noted old told has later = option_or old (if_there later (option_or old (unless_
 
 pub noted_is : (old : Peered) (member : Membership) (t : Turn) (p : ℕ) → p < PLAYER_LIMIT
     → mark_at (marks_after old member t) p
-    ≡ noted (mark_at old.marks p) (mark_at t.marks p) (has_of old p) (slice_index member.mesh.machine.has p)
+    ≡ noted (mark_at old.marks p) (mark_at (offered_marks t.head.offers t.marks) p) (has_of old p)
+    (slice_index member.mesh.machine.has p)
 noted_is old member t p l =
     each_at (kept_at member.mesh.machine.has old.marks (marks_told old t)) p l
     ∙ ap (λ o. option_or (mark_at old.marks p) (if_there (slice_index member.mesh.machine.has p) o))
-    (each_at (told_at old.member.mesh.machine.has old.marks t.marks) p l)
+    (each_at (told_at old.member.mesh.machine.has old.marks (offered_marks t.head.offers t.marks)) p l)
 
 pub noted_many : (old : Peered) (member : Membership) (t : Turn) → length (marks_after old member t) ≡ PLAYER_LIMIT
 noted_many old member t =
@@ -149,6 +150,29 @@ pub offered_alike : (offers : List Offer) (known : List (Option Marked)) (p f : 
 offered_alike offers known p f l inside =
     ap (λ o. mark_for o f) (each_at (offered_at offers known) p l)
     ∙ told_as_known (slice_index_or offers p none_offered) (mark_at known p) f inside
+
+-- and still is if all are that are there
+told_or_there : (offer : Offer) (count : ℕ) (known : Option Marked) (f : ℕ) → IsIn offer f
+    → mark_for (if_offered_or_there offer count known) f ≡ mark_for known f
+told_or_there offer count None f inside = refl
+told_or_there offer count (Some m) f inside =
+    either (nat_le offer.first m.frame && nat_lt m.frame offer.end) (told_as_known offer (Some m) f inside)
+  where
+    there : (b : Bool) → mark_for None f ≡ mark_for (Some m) f → mark_for (if b then Some m else None) f ≡ mark_for (Some m) f
+    there true e = refl
+    there false e = e
+
+    either : (b : Bool) → mark_for (if b then Some m else None) f ≡ mark_for (Some m) f
+        → mark_for (option_or (if b then Some m else None) (if_there count (Some m))) f ≡ mark_for (Some m) f
+    either true e = refl
+    either false e = there (nat_lt m.frame count) e
+
+pub told_alike : (offers : List Offer) (has : List ℕ) (known : List (Option Marked)) (p f : ℕ) → p < PLAYER_LIMIT
+    → IsIn (slice_index_or offers p none_offered) f
+    → mark_for (mark_at (told_marks offers has known) p) f ≡ mark_for (mark_at known p) f
+told_alike offers has known p f l inside =
+    ap (λ o. mark_for o f) (each_at (told_mark offers has known) p l)
+    ∙ told_or_there (slice_index_or offers p none_offered) (slice_index has p) (mark_at known p) f inside
 
 kept_in : (offer : Offer) (f : ℕ) → IsIn (kept_offer offer) f → IsIn offer f
 kept_in offer f = go (offer.first == offer.end)

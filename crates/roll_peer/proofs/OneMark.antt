@@ -34,7 +34,7 @@ use Rattle.roll_wire.specs.declared.datagram.Mark.{Mark}
 use Rattle.roll_wire.specs.declared.datagram.Marked.{Marked}
 use Rattle.roll_peer.specs.Marking.{is_numbered, is_own_first, mark_refusal, IsMarkedAs}
 use Rattle.roll_peer.specs.MarkLaws.{has_of, mark_for, mark_of_word, TheyKnowOneMark, WhatWasPutIsKnown, WhoHasTheWordHasItsMark}
-use Rattle.roll_peer.specs.Marks.{mark_at}
+use Rattle.roll_peer.specs.Marks.{mark_at, offered_marks}
 use Rattle.roll_peer.specs.PeerWorlds.{nobody, IsPlayedTo, sent_in, Acts, AreSteps, Calls, CallsHolding, Deed, Disconnects, Does, HearsToo, IsStep, NotesSettled, NotesStateAt, Opens, PeerWorld, Polls, PutsMark, Receives, SaysBye, Sends, SendsNone, TakesEvent, TakesTurn, VoidsMark}
 use Rattle.roll_peer.specs.Peered.{without_all, Peered}
 use Rattle.roll_peer.specs.Receiving.{meeting, opened, packet_of, sender_of, ticking, Hears, HearsTurn, IsIgnored}
@@ -48,7 +48,7 @@ use Rattle.roll_peer.specs.declared.received.Received.TheVariants.{Hello as Hell
 use Rattle.roll_peer.proofs.Genuine.{genuine}
 use Rattle.roll_peer.proofs.Keeping.{is_own, stays_left, stays_like, stays_met, stays_on, stays_polled, Stays}
 use Rattle.roll_peer.proofs.Mirrors.{in_either, mirrors, mirrors_nobody, step_mirrors, text_is, IsAt, IsMirrored, IsToldAs, Mirrors, WasTold}
-use Rattle.roll_peer.proofs.Noted.{heard_in, heard_more, mark_here, mark_other, noted, noted_alike, noted_early, noted_is, noted_many, noted_there, offered_alike, shortened_in, IsIn}
+use Rattle.roll_peer.proofs.Noted.{heard_in, heard_more, mark_here, mark_other, noted, noted_alike, noted_early, noted_is, noted_many, noted_there, offered_alike, shortened_in, told_alike, IsIn}
 use Rattle.roll_peer.proofs.Polling.{either_like, ignored_like, like, like_as, AreLike}
 use Rattle.roll_peer.proofs.Said.{after_send_is}
 use Rattle.roll_peer.proofs.Standing.{from_kept}
@@ -212,8 +212,12 @@ module _ (match : Match) (world : PeerWorld) (i : ℕ) (old : Peered) (seat : ol
         (heard_in mid.member.mesh.seat new.member.mesh.machine.has packet mid.member.mesh.machine p f low
         (omega (arith, l, hear_is p)))
 
+    -- the mark that it tells of a word that it offers
+    abbrev heard_mark : ℕ → Option Marked
+    heard_mark p = mark_at (offered_marks t.head.offers t.marks) p
+
     now : (p : ℕ) → p < PLAYER_LIMIT
-        → mark_at new.marks p ≡ noted (mark_at mid.marks p) (mark_at t.marks p) (has_of mid p) (has_of new p)
+        → mark_at new.marks p ≡ noted (mark_at mid.marks p) (heard_mark p) (has_of mid p) (has_of new p)
     now p l =
         ap (λ (peer : Peered). mark_at peer.marks p) heard.rest ∙ noted_is mid new.member t p l
 
@@ -225,21 +229,21 @@ module _ (match : Match) (world : PeerWorld) (i : ℕ) (old : Peered) (seat : ol
     turn_changes told = record {
       sized = ap (λ (peer : Peered). length peer.marks) heard.rest ∙ noted_many mid new.member t;
       keeps = λ p m l e.
-          now p l ∙ ap (λ o. noted o (mark_at t.marks p) (has_of mid p) (has_of new p)) (first.keeps p m l e);
+          now p l ∙ ap (λ o. noted o (heard_mark p) (has_of mid p) (has_of new p)) (first.keeps p m l e);
       own = λ p f l e lt.
           ap (λ o. mark_for o f) (now p l)
-          ∙ noted_early (mark_at mid.marks p) (mark_at t.marks p) (has_of mid p) (has_of new p) f
+          ∙ noted_early (mark_at mid.marks p) (heard_mark p) (has_of mid p) (has_of new p) f
           (omega (arith, lt, stays.more p l))
           ∙ first.own p f l e lt;
       others = λ p f l other lt.
           ap (λ o. mark_for o f) (now p l)
-          ∙ noted_alike (mark_at mid.marks p) (mark_at t.marks p) (owners match world p) (has_of mid p) (has_of new p) f
+          ∙ noted_alike (mark_at mid.marks p) (heard_mark p) (owners match world p) (has_of mid p) (has_of new p) f
           (λ g below. first.others p g l other below)
           (λ m e. first.there p m l other e)
-          (λ low. told p f l (offered p f low lt))
+          (λ low. offered_alike t.head.offers t.marks p f l (offered p f low lt) ∙ told p f l (offered p f low lt))
           lt;
       there = λ p m l other e.
-          noted_there (mark_at mid.marks p) (mark_at t.marks p) (has_of mid p) (has_of new p) m (sym (now p l) ∙ e)
+          noted_there (mark_at mid.marks p) (heard_mark p) (has_of mid p) (has_of new p) m (sym (now p l) ∙ e)
           (λ was. first.there p m l other was) (more p);
     }
 
@@ -253,7 +257,7 @@ module _ (match : Match) (world : PeerWorld) (i : ℕ) (old : Peered) (seat : ol
   content_changes step before after mid new bytes (Greets hello) (HelloHeard sender) stays opens told hears =
       stays_change new (stays_on old mid new stays
       (stays_like mid new (like_as mid _ new hears.2 (refl, refl, refl))))
-  content_changes step before after mid new bytes Leaves (ByeHeard sender) stays opens told hears =
+  content_changes step before after mid new bytes (Leaves why) (ByeHeard sender) stays opens told hears =
       let gone : Peered = record mid {
         member = record mid.member {
           mesh = stepped (λ seat machine. leave seat (sender_of bytes) machine) mid.member.mesh;
@@ -265,8 +269,8 @@ module _ (match : Match) (world : PeerWorld) (i : ℕ) (old : Peered) (seat : ol
   content_changes step before after mid new bytes (Greets hello) (ByeHeard sender) stays opens told hears = absurd hears
   content_changes step before after mid new bytes (Plays t) (HelloHeard sender) stays opens told hears = absurd hears
   content_changes step before after mid new bytes (Plays t) (ByeHeard sender) stays opens told hears = absurd hears
-  content_changes step before after mid new bytes Leaves (HelloHeard sender) stays opens told hears = absurd hears
-  content_changes step before after mid new bytes Leaves (PlayHeard sender taken) stays opens told hears = absurd hears
+  content_changes step before after mid new bytes (Leaves why) (HelloHeard sender) stays opens told hears = absurd hears
+  content_changes step before after mid new bytes (Leaves why) (PlayHeard sender taken) stays opens told hears = absurd hears
 
   -- a mark is put on the next word of an own player
   module _ (s : Seen) (new : Peered) (player frame : ℕ) (mark : Mark) (word : 1 ≤ match.words)
@@ -424,7 +428,7 @@ module _ (match : Match) (world : PeerWorld) (i : ℕ) (old : Beside) (seat : ol
       quiet new (met_alike new (ticking now old.peer) (refl, refl, refl) does.0
       (sent_as (meeting old.session (ticking now old.peer)) new.peer machine does.2))
   acts_change step sent (SendsNone now) new told does = alike new (ticking now old.peer) does.0 (refl, refl, refl)
-  acts_change step sent (SaysBye machine bytes) new told does =
+  acts_change step sent (SaysBye machine why bytes) new told does =
       alike new old.peer (ap (λ (b : Beside). b.peer) does.2) (like old.peer)
   acts_change step sent (Disconnects machine) new told does =
       quiet new (subst (λ (p : Peered). Stays old.peer p) (sym does.0) (stays_left old.peer machine))
@@ -452,7 +456,7 @@ module _ (match : Match) (world : PeerWorld) (i : ℕ) (now : Peered) (marked : 
       → (p f : ℕ) → p < PLAYER_LIMIT → Offers t p f → mark_for (mark_at t.marks p) f ≡ mark_for (owners match world p) f
   play_tells s peer m t same play p f l inside =
       ap (λ (ms : List (Option Marked)). mark_for (mark_at ms p) f) play.marks
-      ∙ offered_alike t.head.offers peer.marks p f l inside
+      ∙ told_alike t.head.offers peer.member.mesh.machine.has peer.marks p f l inside
       ∙ ap (λ (ms : List (Option Marked)). mark_for (mark_at ms p) f) (sym same.2)
       ∙ marked.same p f l (omega (
         arith,
@@ -478,17 +482,18 @@ module _ (match : Match) (world : PeerWorld) (i : ℕ) (now : Peered) (marked : 
           → mark_for (mark_at t.marks p) f ≡ mark_for (owners match world p) f
       go (Plays u) fits e = play_tells s peer m t same (subst (λ (x : Turn). IsPlayFor s peer m x) (one t u e) fits.1)
       go (Greets hello) fits e = absurd cc
-      go Leaves fits e = absurd fits
+      go (Leaves why) fits e = absurd fits
 
-  bye_tells : (peer : Peered) (m : ℕ) (bytes : List ℕ) → Fits (message_by (key_for peer m Leaves) peer.settings.me Leaves)
-      → bytes ≡ text_for peer m Leaves → TellsMarks match world bytes
-  bye_tells peer m bytes spelled text reader t opens = absurd (no_play found)
+  bye_tells : (peer : Peered) (m why : ℕ) (bytes : List ℕ)
+      → Fits (message_by (key_for peer m (Leaves why)) peer.settings.me (Leaves why))
+      → bytes ≡ text_for peer m (Leaves why) → TellsMarks match world bytes
+  bye_tells peer m why bytes spelled text reader t opens = absurd (no_play found)
     where
-      found : Plays t ≡ Leaves
-      found = genuine reader (key_for peer m Leaves) peer.settings.me Leaves (Plays t) spelled
-          (sym (ap (opened reader) (text ∙ text_is peer m Leaves)) ∙ opens)
+      found : Plays t ≡ Leaves why
+      found = genuine reader (key_for peer m (Leaves why)) peer.settings.me (Leaves why) (Plays t) spelled
+          (sym (ap (opened reader) (text ∙ text_is peer m (Leaves why))) ∙ opens)
 
-      no_play : Plays t ≡ Leaves → ⊥
+      no_play : Plays t ≡ Leaves why → ⊥
       no_play e = cc
 
 -- what a deed says
@@ -505,9 +510,9 @@ said_tells match world i step sent (Sends machine now (Some said)) old new marke
     only_said match world place said bytes e
     (content_tells match world i new.peer marked old.session mid machine does.1.content said (sent_as mid new.peer machine does.2)
     does.1.fits does.1.spelled does.1.text)
-said_tells match world i step sent (SaysBye machine said) old new marked does place bytes e =
+said_tells match world i step sent (SaysBye machine why said) old new marked does place bytes e =
     only_said match world place said bytes e
-    (bye_tells match world i new.peer marked old.peer machine said does.1 does.0)
+    (bye_tells match world i new.peer marked old.peer machine why said does.1 does.0)
 said_tells match world i step sent (Sends machine now None) old new marked does place bytes e = absurd (none_some bytes e)
 said_tells match world i step sent Calls old new marked does place bytes e = absurd (none_some bytes e)
 said_tells match world i step sent CallsHolding old new marked does place bytes e = absurd (none_some bytes e)

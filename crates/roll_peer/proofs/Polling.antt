@@ -8,7 +8,7 @@ use Rattle.roll_session.specs.Seen.{Seen}
 use Rattle.roll_peer.specs.Peered.{Peered}
 use Rattle.roll_peer.specs.Receiving.{after_ignored, is_refusal, meeting, moment_of, sender_of, with_stranger}
 use Rattle.roll_peer.specs.CutOffs.{cut_off_since, hears_most, most_noted}
-use Rattle.roll_peer.specs.Turning.{begun, farewell_at, farewell_until, hushed_at, hushed_until, looked_after, missed_at, missed_until, moved_to, over, silenced_until, stall_told, strangers_told, timed, watched_until, without, IsPolled, Polls}
+use Rattle.roll_peer.specs.Turning.{begun, desync_at, desync_in, desync_told, desync_until, farewell_at, farewell_until, hushed_at, hushed_until, looked_after, missed_at, missed_until, moved_to, over, silenced_until, stall_told, strangers_told, timed, watched_at, watched_until, without, IsPolled, Polls}
 use Rattle.roll_peer.specs.declared.received.Ignored.{Ignored}
 use Rattle.roll_peer.specs.declared.refusal.PeerRefusal.{PeerRefusal}
 use Rattle.roll_peer.specs.declared.refusal.PeerRefusal.TheVariants.{OtherSession, Session}
@@ -48,6 +48,10 @@ strangers_like : (now : ℕ) (peer : Peered) → AreLike peer (strangers_told no
 strangers_like now peer =
     like_as peer _ (strangers_told now peer) (strangers_told_is now peer) (either_like _ peer _ _ (like peer) (like peer))
 
+desync_like : (m : ℕ) (frame : Option ℕ) (peer : Peered) → AreLike peer (desync_told m frame peer)
+desync_like m None peer = like peer
+desync_like m (Some frame) peer = like peer
+
 -- what is refused changes nothing but what is counted and told
 pub ignored_like : (bytes : List ℕ) (why : Ignored) (peer : Peered)
     → AreLike peer (with_stranger bytes why (after_ignored (sender_of bytes) why peer))
@@ -71,7 +75,7 @@ module _ (At : Peered → Type 0) (as_like : (old new : Peered) → AreLike old 
   silenced_so now (suc m) peer at = without_if _ (silenced_until now m peer) m (silenced_so now m peer at)
 
   watched_so : (now k : ℕ) (peer : Peered) → At peer → At (watched_until now k peer)
-  unfolding watched_until
+  unfolding watched_until watched_at
   watched_so now zero peer at = at
   watched_so now (suc m) peer at =
       let before : Peered = watched_until now m peer in
@@ -101,13 +105,20 @@ module _ (At : Peered → Type 0) (as_like : (old new : Peered) → AreLike old 
       let before : Peered = farewell_until m peer in
       as_like before (farewell_at m before) (either_like _ before _ _ (like before) (like before)) (farewell_so m peer at)
 
+  desyncs_so : (now k : ℕ) (peer : Peered) → At peer → At (desync_until now k peer)
+  unfolding desync_until
+  desyncs_so now zero peer at = at
+  desyncs_so now (suc m) peer at =
+      let before : Peered = desync_until now m peer in
+      as_like before (desync_at now m before) (desync_like m (desync_in before now m) before) (desyncs_so now m peer at)
+
   strangers_so : (now : ℕ) (peer : Peered) → At peer → At (strangers_told now peer)
   strangers_so now peer at = as_like peer (strangers_told now peer) (strangers_like now peer) at
 
   looked_so : (now k : ℕ) (peer : Peered) → At peer → At (looked_after now k peer)
   looked_so now k peer at =
-      farewell_so k _ (strangers_so now _ (missed_so now k _ (hushed_so now k _ (watched_so now k _
-      (silenced_so now k (most_noted now peer) (as_like peer (most_noted now peer) (most_like now peer) at))))))
+      farewell_so k _ (desyncs_so now k _ (strangers_so now _ (missed_so now k _ (hushed_so now k _ (watched_so now k _
+      (silenced_so now k (most_noted now peer) (as_like peer (most_noted now peer) (most_like now peer) at)))))))
 
   -- up to where players leave
   pub seen_so : (now k frame : ℕ) (peer : Peered) → At peer → At (looked_after now k (moved_to frame peer))

@@ -1,6 +1,6 @@
 -- What the definitions say that stand closed in the contracts of a peer.
 use Rattle.std.proofs.Common.{◌≡◌, ℕ, List, refl}
-use Rattle.std.specs.Prelude.{true, false, ◌-◌, ◌&&◌, not, is_some, if◌then◌else◌, slice_set}
+use Rattle.std.specs.Prelude.{true, false, ◌-◌, ◌&&◌, ◌==◌, not, is_some, if◌then◌else◌, slice_set}
 use Rattle.std.specs.Option.{option_map}
 use Rattle.roll_member.specs.Telling.{queued}
 use Rattle.roll_peer.specs.Events.{pushed}
@@ -65,6 +65,8 @@ pub stats_are : (peer : Peered) (m : ℕ) → stats_of peer m ≡ record {
   frames_behind = (contact_at peer m).behind;
   their_frames_behind = (contact_at peer m).their_behind;
   refused = (contact_at peer m).refused;
+  dropped = (contact_at peer m).dropped;
+  restarted = not ((contact_at peer m).restarted == 0);
 }
 unfolding stats_of
 stats_are peer m = refl

@@ -1,12 +1,11 @@
 -- What is told, as it is sent: offers of no words are left out.
-use Rattle.std.proofs.Common.{◌≡◌, ◌-◌, ℕ, List, [], ◌∷◌, Bool, true, false, Option, map, refl, arith}
+use Rattle.std.proofs.Common.{◌≡◌, ◌-◌, ℕ, List, [], ◌∷◌, Bool, true, false, map, refl, arith}
 use Rattle.std.specs.Prelude.{◌==◌, ◌&&◌, length, nat_le, if◌then◌else◌}
 use Rattle.std.proofs.lemmas.Bool.{and_from, and_parts, eqb-true}
 use Rattle.std.proofs.lemmas.List.Sums.{sum_by-cons}
 use Rattle.roll_mesh.specs.Machines.{kept_offer, none_offered}
 use Rattle.roll_mesh.specs.declared.packet.Offer.{Offer}
-use Rattle.roll_wire.specs.Spelling.{are_offers, are_placed, are_spelled, count_of, is_offer}
-use Rattle.roll_wire.specs.declared.datagram.Marked.{Marked}
+use Rattle.roll_wire.specs.Spelling.{are_offers, count_of, is_offer}
 use Rattle.roll_wire.specs.declared.limits.TheConstants.{WORD_LIMIT}
 
 abbrev pub size : Offer → ℕ
@@ -56,13 +55,3 @@ still_whole os words h =
     (nat_le (length words) WORD_LIMIT)
     (and_from (are_offers (map kept_offer os)) (count_of os == length words) (still_offers os inner.0) inner.1)
     outer.1)
-
--- and marks of words that are offered are told with them
-pub marked_whole : (os : List Offer) (words : List ℕ) (marks : List (Option Marked))
-    → (are_offers os && (count_of os == length words) && nat_le (length words) WORD_LIMIT) ≡ true
-    → are_placed os marks ≡ true → are_spelled marks ≡ true
-    → (are_offers os && (count_of os == length words) && nat_le (length words) WORD_LIMIT
-    && (are_placed os marks && are_spelled marks)) ≡ true
-marked_whole os words marks h placed spelled =
-    and_from (are_offers os && (count_of os == length words) && nat_le (length words) WORD_LIMIT)
-    (are_placed os marks && are_spelled marks) h (and_from (are_placed os marks) (are_spelled marks) placed spelled)

@@ -8,7 +8,7 @@ use Rattle.roll_mesh.specs.Machines.{leave}
 use Rattle.roll_session.specs.Seen.{Seen}
 use Rattle.roll_peer.specs.Peered.{Peered}
 use Rattle.roll_peer.specs.CutOffs.{cut_off_since, most_noted}
-use Rattle.roll_peer.specs.Turning.{begun, farewell_until, hushed_until, looked_after, missed_until, moved_to, silenced_until, stall_told, strangers_told, timed, watched_until, without}
+use Rattle.roll_peer.specs.Turning.{begun, desync_in, desync_told, desync_until, farewell_until, hushed_until, looked_after, missed_until, moved_to, silenced_until, stall_told, strangers_told, timed, watched_at, watched_until, without}
 use Rattle.roll_peer.proofs.Said.{begun_is, over_is, strangers_told_is}
 
 module _ (s : Seen) where
@@ -35,7 +35,7 @@ module _ (s : Seen) where
       either _ _ _ (without_tied m (silenced_until now m peer).member.mesh before) before
 
   watched_tied : (now k : ℕ) (peer : Peered) → IsTiedTo peer → IsTiedTo (watched_until now k peer)
-  unfolding watched_until
+  unfolding watched_until watched_at
   watched_tied now zero peer h = h
   watched_tied now (suc m) peer h =
       let before = watched_tied now m peer h in
@@ -57,6 +57,17 @@ module _ (s : Seen) where
   strangers_tied now peer h =
       subst (λ (p : Peered). IsTiedTo p) (sym (strangers_told_is now peer)) (either _ _ _ h h)
 
+  desync_tied : (m : ℕ) (frame : Option ℕ) (peer : Peered) → IsTiedTo peer → IsTiedTo (desync_told m frame peer)
+  desync_tied m None peer h = h
+  desync_tied m (Some frame) peer h = h
+
+  desyncs_tied : (now k : ℕ) (peer : Peered) → IsTiedTo peer → IsTiedTo (desync_until now k peer)
+  unfolding desync_until
+  desyncs_tied now zero peer h = h
+  desyncs_tied now (suc m) peer h =
+      let before : Peered = desync_until now m peer in
+      desync_tied m (desync_in before now m) before (desyncs_tied now m peer h)
+
   farewell_tied : (k : ℕ) (peer : Peered) → IsTiedTo peer → IsTiedTo (farewell_until k peer)
   unfolding farewell_until
   farewell_tied zero peer h = h
@@ -77,8 +88,8 @@ module _ (s : Seen) where
   pub looked_tied : (now k frame : ℕ) (peer : Peered) → IsTiedTo peer
       → IsTiedTo (looked_after now k (moved_to frame peer))
   looked_tied now k frame peer h =
-      farewell_tied k _ (strangers_tied now _ (missed_tied now k _ (hushed_tied now k _ (watched_tied now k _
-      (silenced_tied now k (most_noted now (moved_to frame peer)) (most_tied now (moved_to frame peer) (moved_tied frame peer h)))))))
+      farewell_tied k _ (desyncs_tied now k _ (strangers_tied now _ (missed_tied now k _ (hushed_tied now k _ (watched_tied now k _
+      (silenced_tied now k (most_noted now (moved_to frame peer)) (most_tied now (moved_to frame peer) (moved_tied frame peer h))))))))
 
   pub begun_tied : (peer : Peered) → IsTiedTo peer → IsTiedTo (begun peer)
   begun_tied peer h = subst (λ (p : Peered). IsTiedTo p) (sym (begun_is peer)) (either _ _ _ h h)

@@ -1,15 +1,17 @@
 -- What is done machine by machine, or player by player: nothing for none of them, and one more after the first so many.
 use Rattle.std.proofs.Common.{◌≡◌, ℕ, suc, ◌+◌, List, Bool, Option, None, arith, refl}
-use Rattle.std.specs.Prelude.{min}
+use Rattle.std.specs.Prelude.{min, slice_index_or}
 use Rattle.roll_mesh.specs.Machines.{is_in}
 use Rattle.roll_wire.specs.declared.datagram.Marked.{Marked}
+use Rattle.roll_peer.specs.Digests.{if_between, middle, nearer, nearest_among}
 use Rattle.roll_peer.specs.Marks.{end_among, end_by, mark_at}
 use Rattle.roll_peer.specs.Notices.{told, told_of}
 use Rattle.roll_peer.specs.Paces.{lead_of, slower, slowest}
 use Rattle.roll_peer.specs.Peered.{Peered}
-use Rattle.roll_peer.specs.Turning.{farewell_at, farewell_until, hushed_at, hushed_until, missed_at, missed_until, silenced_at, silenced_until, watched_at, watched_until}
+use Rattle.roll_peer.specs.Turning.{desync_at, desync_until, farewell_at, farewell_until, hushed_at, hushed_until, missed_at, missed_until, silenced_at, silenced_until, watched_at, watched_until}
 use Rattle.roll_peer.specs.Waiting.{Waiting}
 use Rattle.roll_contact.specs.declared.contact.Contact.{Contact}
+use Rattle.roll_peer.specs.declared.digests.Digests.{Digests}
 use Rattle.roll_peer.specs.declared.event.PeerEvent.{PeerEvent}
 use Rattle.roll_peer.specs.declared.marking.TheConstants.{NO_END}
 
@@ -87,3 +89,21 @@ pub end_next : (voids : List Bool) (marks : List (Option Marked)) (p : ℕ)
     → end_among voids marks (p + 1) ≡ min (end_among voids marks p) (end_by (is_in voids p) (mark_at marks p))
 unfolding end_among
 end_next voids marks p = rw (after p) refl
+
+pub desync_none : (now : ℕ) (peer : Peered) → desync_until now 0 peer ≡ peer
+unfolding desync_until
+desync_none now peer = refl
+
+pub desync_next : (now m : ℕ) (peer : Peered)
+    → desync_until now (m + 1) peer ≡ desync_at now m (desync_until now m peer)
+unfolding desync_until
+desync_next now m peer = rw (after m) refl
+
+pub nearest_none : (digests : Digests) (from to : ℕ) → nearest_among digests from to 0 ≡ None
+unfolding nearest_among
+nearest_none digests from to = refl
+
+pub nearest_next : (digests : Digests) (from to n : ℕ) → nearest_among digests from to (n + 1)
+    ≡ nearer (middle from to) (nearest_among digests from to n) (if_between from to (slice_index_or digests.places n None))
+unfolding nearest_among
+nearest_next digests from to n = rw (after n) refl

@@ -1,5 +1,5 @@
 -- Whether a machine hears most of the others, or is cut off from them.
-use Rattle.std.specs.Prelude.{ℕ, zero, suc, ◌+◌, ◌*◌, ◌/◌, Bool, true, false, not, ◌&&◌, ◌||◌, ◌==◌, nat_le, nat_lt, is_some, Option, Some, None, if◌then◌else◌}
+use Rattle.std.specs.Prelude.{ℕ, zero, suc, ◌+◌, ◌*◌, ◌/◌, Bool, false, not, ◌&&◌, ◌||◌, ◌==◌, nat_le, nat_lt, is_some, Option, Some, None, if◌then◌else◌}
 use Rattle.std.specs.List.{filter, range_with_len, slice_get}
 use Rattle.std.specs.Option.{option_map_or}
 use Rattle.roll_contact.specs.Clocks.{since}

@@ -13,7 +13,7 @@ use Rattle.roll_peer.specs.Settings.{number_for}
 use Rattle.roll_peer.specs.Turning.{Polls}
 use Rattle.roll_peer.specs.Waiting.{Waiting}
 use Rattle.roll_peer.specs.declared.event.PeerEvent.{PeerEvent}
-use Rattle.roll_peer.specs.declared.event.PeerEvent.TheVariants.{Synchronizing, Synchronized, Running, DisconnectedFromPeer, TimeSync, Interrupted, Resumed, Desync, Mismatch, Dropped, Left, Restarted, Stalled, Refused, Missing, CutOff, Strangers}
+use Rattle.roll_peer.specs.declared.event.PeerEvent.TheVariants.{Synchronizing, Synchronized, Running, DisconnectedFromPeer, TimeSync, Interrupted, Resumed, Desync, Mismatch, Dropped, Left, Restarted, Stalled, Refused, Missing, CutOff, Strangers, TwoMarks}
 use Rattle.roll_peer.specs.declared.received.Ignored.{Ignored}
 use Rattle.roll_peer.specs.declared.received.Received.{Received}
 
@@ -22,7 +22,7 @@ use Rattle.roll_peer.specs.declared.received.Received.{Received}
 abbrev pub is_greeting : Content → Bool
 is_greeting (Greets hello) = true
 is_greeting (Plays t) = false
-is_greeting Leaves = false
+is_greeting (Leaves why) = false
 
 -- the key of what a machine seals for this opening
 abbrev pub key_from : Peered → ℕ → Key
@@ -57,13 +57,14 @@ machine_in (Resumed machine) = Some machine
 machine_in (Desync machine frame) = Some machine
 machine_in (Mismatch machine field) = Some machine
 machine_in Dropped = None
-machine_in (Left machine) = Some machine
+machine_in (Left machine bye) = Some machine
 machine_in (Restarted machine) = Some machine
 machine_in (Stalled machine disconnect_in) = Some machine
 machine_in (Refused machine) = Some machine
 machine_in (Missing machine) = Some machine
 machine_in (CutOff over_in) = None
 machine_in (Strangers count) = None
+machine_in (TwoMarks machine player) = Some machine
 
 -- it names none, or one of so many
 abbrev pub IsNamed : ℕ → PeerEvent → Type 0

@@ -1,6 +1,8 @@
 pub mod Codes
+pub mod Comparisons
 pub mod CutOffs
 pub mod Digests
+pub mod Disputes
 pub mod Events
 pub mod Notices
 pub mod Paces

@@ -58,7 +58,7 @@ kept_with has known told = each_player (kept_at has known told)
 abbrev pub is_spelled_in : Content → Bool
 is_spelled_in (Plays t) = are_spelled t.marks
 is_spelled_in (Greets hello) = true
-is_spelled_in Leaves = true
+is_spelled_in (Leaves why) = true
 
 -- ---- what is told
 
@@ -67,8 +67,21 @@ abbrev pub if_offered : Offer → Option Marked → Option Marked
 if_offered offer None = None
 if_offered offer (Some m) = if nat_le offer.first m.frame && nat_lt m.frame offer.end then Some m else None
 
+-- those of some marks whose words are offered
 abbrev pub offered_at : List Offer → List (Option Marked) → ℕ → Option Marked
 offered_at offers known p = if_offered (slice_index_or offers p none_offered) (mark_at known p)
 
 abbrev pub offered_marks : List Offer → List (Option Marked) → List (Option Marked)
 offered_marks offers known = each_player (offered_at offers known)
+
+-- a mark, if its word is offered, or is among so many
+abbrev pub if_offered_or_there : Offer → (count : ℕ) → Option Marked → Option Marked
+if_offered_or_there offer count marked = option_or (if_offered offer marked) (if_there count marked)
+
+-- all marks that are known of words that are offered, or are there
+abbrev pub told_mark : List Offer → (has : List ℕ) → List (Option Marked) → ℕ → Option Marked
+told_mark offers has known p =
+    if_offered_or_there (slice_index_or offers p none_offered) (slice_index has p) (mark_at known p)
+
+abbrev pub told_marks : List Offer → (has : List ℕ) → List (Option Marked) → List (Option Marked)
+told_marks offers has known = each_player (told_mark offers has known)

@@ -1,19 +1,16 @@
 -- What a peer tells its program, and when.
 use Rattle.std.specs.Prelude.{ℕ, zero, suc, ◌+◌, ◌-◌, List, Bool, false, not, ◌&&◌, ◌==◌, nat_lt, Option, Some, None, if◌then◌else◌, slice_index_or}
 use Rattle.roll_mesh.specs.Machines.{is_in}
-use Rattle.roll_wire.specs.declared.datagram.Settled.{Settled}
 use Rattle.roll_contact.specs.Contacts.{is_hushed, unanswered_for}
-use Rattle.roll_peer.specs.Digests.{digest_at}
 use Rattle.roll_peer.specs.Events.{pushed}
 use Rattle.roll_peer.specs.Waiting.{Waiting}
 use Rattle.roll_contact.specs.declared.contact.Contact.{Contact}
 use Rattle.roll_contact.specs.declared.contact.Stage.{Stage}
 use Rattle.roll_contact.specs.declared.contact.Stage.TheVariants.{Silent, Greeted, Playing, Mismatched}
 use Rattle.roll_contact.specs.declared.terms.Field.{Field}
-use Rattle.roll_contact.specs.declared.terms.Field.TheVariants.{Machines, Owners, Settings, Words}
-use Rattle.roll_peer.specs.declared.digests.Digests.{Digests}
+use Rattle.roll_contact.specs.declared.terms.Field.TheVariants.{Lasting, Machines, Opening as OpeningState, Owners, Settings, Words}
 use Rattle.roll_peer.specs.declared.event.PeerEvent.{PeerEvent}
-use Rattle.roll_peer.specs.declared.event.PeerEvent.TheVariants.{Synchronizing, Synchronized, DisconnectedFromPeer, Interrupted, Resumed, Desync, Mismatch, Restarted, Refused}
+use Rattle.roll_peer.specs.declared.event.PeerEvent.TheVariants.{Synchronizing, Synchronized, DisconnectedFromPeer, Interrupted, Resumed, Mismatch, Restarted, Refused}
 use Rattle.roll_peer.specs.declared.settings.MatchSettings.{MatchSettings}
 
 -- an event is told, if there is one
@@ -58,6 +55,8 @@ place_of Machines = 0
 place_of Owners = 1
 place_of Settings = 2
 place_of Words = 3
+place_of Lasting = 4
+place_of OpeningState = 5
 
 -- a field by which a machine is found to mean another match, unless it was so before
 abbrev pub newly : Option Field → Option Field → Option Field
@@ -89,16 +88,6 @@ after_heard m before after waiting =
     (found_out m before.differs after.differs))
     (restarting m before after))
     (refusing m before after)
-
--- a machine's settled state isn't the one that this machine had at that frame
-abbrev pub differs : ℕ → Option ℕ → Bool
-differs digest None = false
-differs digest (Some ours) = not (ours == digest)
-
-abbrev pub desync : Digests → ℕ → Option Settled → Option PeerEvent
-desync digests m None = None
-desync digests m (Some settled) =
-    only_if (differs settled.digest (digest_at digests settled.frame)) (Desync m settled.frame)
 
 -- ---- turns
 

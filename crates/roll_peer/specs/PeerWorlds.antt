@@ -49,7 +49,7 @@ pub data Deed : Type 0 where
   TakesTurn : (now : ℕ) → Result (Option Reached) PeerRefusal → Deed
   Sends : (machine now : ℕ) → Option (List ℕ) → Deed
   SendsNone : (now : ℕ) → Deed
-  SaysBye : (machine : ℕ) → List ℕ → Deed
+  SaysBye : (machine why : ℕ) → List ℕ → Deed
   Disconnects : (machine : ℕ) → Deed
   NotesSettled : (digest : ℕ) → Deed
   NotesStateAt : (frame digest : ℕ) → Deed
@@ -65,7 +65,7 @@ sent_if (Some bytes) = bytes ∷ []
 -- what is sent in it
 abbrev pub sent_in : Deed → List (List ℕ)
 sent_in (Sends machine now bytes) = sent_if bytes
-sent_in (SaysBye machine bytes) = bytes ∷ []
+sent_in (SaysBye machine why bytes) = bytes ∷ []
 sent_in deed = []
 
 -- a session went on by its own program's calls: any events, each accepted by the rules or refused, guesses, room that is made; or
@@ -103,9 +103,9 @@ Does step sent (Sends machine now bytes) old new =
     × (new.session ≡ old.session)
 Does step sent (SendsNone now) old new =
     (new.peer ≡ ticking now old.peer) × (new.session ≡ old.session)
-Does step sent (SaysBye machine bytes) old new =
-    (bytes ≡ text_for old.peer machine Leaves)
-    × Fits (message_by (key_for old.peer machine Leaves) old.peer.settings.me Leaves)
+Does step sent (SaysBye machine why bytes) old new =
+    (bytes ≡ text_for old.peer machine (Leaves why))
+    × Fits (message_by (key_for old.peer machine (Leaves why)) old.peer.settings.me (Leaves why))
     × (new ≡ old)
 Does step sent (Disconnects machine) old new =
     (new.peer ≡ record old.peer {

@@ -1,7 +1,7 @@
 -- Bytes are heard.
 use Rattle.std.specs.Prelude.{◌≡◌, ◌⊎◌, ℕ, List, length, Bool, true, false, ◌&&◌, ◌==◌, not, nat_le, nat_lt, is_some, Option, Some, None, Result, Ok, Err, if◌then◌else◌, slice_index_or, slice_set}
 use Rattle.roll_contact.specs.Clocks.{ticked}
-use Rattle.roll_contact.specs.Contacts.{after_hello, after_play, heard, is_playing, refused}
+use Rattle.roll_contact.specs.Contacts.{after_hello, after_play, bye_heard, called_gone, is_playing, refused}
 use Rattle.roll_contact.specs.Keys.{greeting_key}
 use Rattle.roll_contact.specs.Seals.{unsealed}
 use Rattle.roll_contact.specs.Terms.{mismatch_of}
@@ -21,15 +21,18 @@ use Rattle.roll_wire.specs.declared.datagram.Head.{Head}
 use Rattle.roll_mesh.specs.declared.limits.TheConstants.{MACHINE_LIMIT, PLAYER_LIMIT}
 use Rattle.roll_wire.specs.declared.datagram.Hello.{Hello}
 use Rattle.roll_wire.specs.declared.datagram.Marked.{Marked}
+use Rattle.roll_wire.specs.declared.datagram.Settled.{Settled}
 use Rattle.roll_wire.specs.declared.fault.WireFault.{WireFault}
 use Rattle.roll_wire.specs.Reading.{all_of, unmarked_of}
 use Rattle.roll_wire.specs.declared.limits.TheConstants.{DATAGRAM_LIMIT}
 use Rattle.roll_wire.specs.Spelling.{content as content_of, Content, Greets, Leaves, Message, Plays, Turn}
+use Rattle.roll_peer.specs.Comparisons.{compared}
 use Rattle.roll_peer.specs.CutOffs.{over_if}
+use Rattle.roll_peer.specs.Disputes.{disputed}
 use Rattle.roll_peer.specs.Judging.{are_no_more, is_inside}
-use Rattle.roll_peer.specs.Marks.{end_among, kept_with, told_with}
-use Rattle.roll_peer.specs.Notices.{after_heard, desync, told}
-use Rattle.roll_peer.specs.Peered.{beside, contact_at, Peered}
+use Rattle.roll_peer.specs.Marks.{end_among, kept_with, offered_marks, told_with}
+use Rattle.roll_peer.specs.Notices.{after_heard}
+use Rattle.roll_peer.specs.Peered.{beside, comparison_at, contact_at, Peered}
 use Rattle.roll_peer.specs.Settings.{number_for, opening_of, terms_of}
 use Rattle.roll_peer.specs.Strangers.{one_stranger_more}
 use Rattle.roll_peer.specs.declared.received.Ignored.{Ignored}
@@ -131,7 +134,7 @@ abbrev pub unheard : Peered → ℕ → Content → Option Ignored
 unheard peer sender (Plays t) =
     overstated (packet_of sender t) (unplayed peer (packet_of sender t))
 unheard peer sender (Greets hello) = None
-unheard peer sender Leaves = None
+unheard peer sender (Leaves why) = None
 
 abbrev pub unheard_in : Peered → ℕ → Result Content Ignored → Option Ignored
 unheard_in peer sender (Err why) = Some why
@@ -201,23 +204,33 @@ with_stranger bytes why peer =
 
 -- ---- what is heard
 
--- what is known of a machine once its turn was heard, of which words may have been refused
-abbrev pub after_words : Bool → Head → ℕ → ℕ → Contact → Contact
-after_words is_refused head frame now contact =
-    if is_refused then refused (after_play head.number head.clocks frame now contact)
-    else after_play head.number head.clocks frame now contact
+-- what is known of a machine whose turn called this one gone, if it did
+abbrev pub called_gone_if : Bool → Contact → Contact
+called_gone_if calls_gone contact = if calls_gone then called_gone contact else contact
 
--- a machine is known otherwise, and so is a settled state of it that this machine hadn't
-abbrev pub knowing : Turn → ℕ → Contact → Peered → Peered
-knowing t m contact peer = record peer {
-  contacts = slice_set peer.contacts m contact;
-  waiting = told (after_heard m (contact_at peer m) contact peer.waiting)
-      (desync peer.digests m t.head.settled);
+-- and of which words may have been refused
+abbrev pub refused_if : Bool → Contact → Contact
+refused_if is_refused contact = if is_refused then refused contact else contact
+
+-- what is known of it once that turn was heard
+abbrev pub after_words : (is_refused calls_gone : Bool) → Head → ℕ → ℕ → Contact → Contact
+after_words is_refused calls_gone head frame now contact =
+    refused_if is_refused (called_gone_if calls_gone (after_play head.number head.clocks frame now contact))
+
+-- a machine's settled state is compared with this one's
+abbrev pub comparing : ℕ → Option Settled → Peered → Peered
+comparing m settled peer = record peer {
+  comparisons = slice_set peer.comparisons m (compared peer.digests settled (moment_of peer) (comparison_at peer m));
 }
 
--- the marks that are known as a turn is heard, with those that it tells
+-- a machine is known otherwise, and its settled state is compared
+abbrev pub knowing : Turn → ℕ → Contact → Peered → Peered
+knowing t m contact peer = comparing m t.head.settled (knowing_of m contact peer)
+
+-- the marks that are known as a turn is heard, with those that it tells of words that it offers
 abbrev pub marks_told : Peered → Turn → List (Option Marked)
-marks_told peer t = told_with peer.member.mesh.machine.has peer.marks t.marks
+marks_told peer t =
+    told_with peer.member.mesh.machine.has peer.marks (offered_marks t.head.offers t.marks)
 
 -- from which frame on no words are taken as a turn is heard
 abbrev pub end_for : Peered → Turn → ℕ
@@ -235,14 +248,14 @@ is_dropped WasTaken = false
 -- once session and mesh have heard a turn, at a frame of the session
 abbrev pub after_turn : Peered → Membership → ℕ → ℕ → Turn → Taken → Peered
 after_turn old member frame sender t taken =
-    let contact = after_words (is_some taken.refusal) t.head frame (moment_of old) (contact_at old sender) in
+    let contact = after_words (is_some taken.refusal) (is_dropped taken.heard) t.head frame (moment_of old) (contact_at old sender) in
     let known = knowing t sender contact (record old { member = member; marks = marks_after old member t }) in
-    over_if (is_dropped taken.heard) known
+    over_if (is_dropped taken.heard) (disputed sender t known)
 
 -- a turn is heard: its words become remote words of the session, as far as it takes them, and of who isn't gone none after one with a
 -- mark that isn't void;
--- and what its sender tells is known, of marks those of words that are there.
--- If the sender regards this machine as gone, that is told
+-- and what its sender tells is known, of marks those of words that it offers and that are there.
+-- If the sender knows another mark than this machine, or regards it as gone, that is told
 pub record HearsTurn (step : Step) (before after : Seen) (old new : Peered) (sender : ℕ) (t : Turn)
     (taken : Taken) : Type 0 where
   pub member : HearsPacket step (beside before old) (beside after new) (packet_of sender t) t.words (end_for old t) taken
@@ -255,13 +268,13 @@ HearsHello old new sender hello =
     new ≡ knowing_of sender (after_hello (opening_of old.settings) (mismatch_of (terms_of old.settings) hello) hello
     (moment_of old) (contact_at old sender)) old
 
--- a machine is gone from now on
-abbrev pub HearsBye : (old new : Peered) → ℕ → Type 0
-HearsBye old new sender = new ≡ record old {
+-- a machine is gone from now on, and it is known what its bye said
+abbrev pub HearsBye : (old new : Peered) → ℕ → (why : ℕ) → Type 0
+HearsBye old new sender why = new ≡ record old {
   member = record old.member {
     mesh = stepped (λ seat machine. leave seat sender machine) old.member.mesh;
   };
-  contacts = slice_set old.contacts sender (heard (moment_of old) (contact_at old sender));
+  contacts = slice_set old.contacts sender (bye_heard why (moment_of old) (contact_at old sender));
 }
 
 -- what was opened is heard, and the session, if it takes words
@@ -270,8 +283,8 @@ Hears step before after old new sender (Greets hello) (HelloHeard from) =
     (from ≡ sender) × (after ≡ before) × HearsHello old new sender hello
 Hears step before after old new sender (Plays t) (PlayHeard from taken) =
     (from ≡ sender) × HearsTurn step before after old new sender t taken
-Hears step before after old new sender Leaves (ByeHeard from) =
-    (from ≡ sender) × (after ≡ before) × HearsBye old new sender
+Hears step before after old new sender (Leaves why) (ByeHeard from) =
+    (from ≡ sender) × (after ≡ before) × HearsBye old new sender why
 Hears step before after old new sender content received = ⊥
 
 -- bytes are heard

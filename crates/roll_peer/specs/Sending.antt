@@ -13,8 +13,9 @@ use Rattle.roll_wire.specs.Spelling.{Content, Fits, Greets, Leaves, Plays, Turn}
 use Rattle.roll_wire.specs.declared.datagram.Clocks.{Clocks}
 use Rattle.roll_wire.specs.declared.datagram.Settled.{Settled}
 use Rattle.roll_session.specs.Seen.{Seen}
-use Rattle.roll_peer.specs.Marks.{offered_marks}
-use Rattle.roll_peer.specs.Peered.{beside, contact_at, Peered}
+use Rattle.roll_peer.specs.Marks.{told_marks}
+use Rattle.roll_peer.specs.Comparisons.{seeking, sought}
+use Rattle.roll_peer.specs.Peered.{beside, comparison_at, contact_at, Peered}
 use Rattle.roll_peer.specs.Receiving.{moment_of}
 use Rattle.roll_peer.specs.Settings.{number_for, opening_of, terms_of}
 use Rattle.roll_peer.specs.declared.sending.TheConstants.{SETTLED_EVERY}
@@ -32,11 +33,17 @@ clocks_in frame peer contact =
     if wants_clocks contact (moment_of peer)
     then Some (clocks_for contact frame (moment_of peer)) else None
 
--- in others the digest of a settled state
-abbrev pub settled_in : Peered → Contact → Option Settled
-settled_in peer contact = if contact.sent % SETTLED_EVERY == 1 then peer.digests.last else None
+-- in others the digest of the last settled state; to a machine whose states differ one in each, by which the first frame that does is
+-- sought
+abbrev pub settled_by : Option ℕ → Peered → ℕ → (number : ℕ) → Option Settled
+settled_by None peer m number = if number % SETTLED_EVERY == 1 then peer.digests.last else None
+settled_by (Some differs) peer m number = seeking peer.digests number (comparison_at peer m) differs
 
--- a turn tells a machine what it hasn't said that it has, without offers of no words, and the marks of the words that it offers
+abbrev pub settled_in : Peered → ℕ → (number : ℕ) → Option Settled
+settled_in peer m number = settled_by (sought (moment_of peer) (comparison_at peer m)) peer m number
+
+-- a turn tells a machine what it hasn't said that it has, without offers of no words, and all marks of words that it
+-- has
 pub record IsPlayFor (s : Seen) (peer : Peered) (m : ℕ) (t : Turn) : Type 0 where
   pub packet : Packet
   pub told : IsTold (beside s peer) m packet t.words
@@ -44,8 +51,8 @@ pub record IsPlayFor (s : Seen) (peer : Peered) (m : ℕ) (t : Turn) : Type 0 wh
   pub offers : t.head.offers ≡ (shortened packet).offers
   pub number : t.head.number ≡ (contact_at peer m).sent
   pub clocks : t.head.clocks ≡ clocks_in s.core.frame peer (contact_at peer m)
-  pub settled : t.head.settled ≡ settled_in peer (contact_at peer m)
-  pub marks : t.marks ≡ offered_marks t.head.offers peer.marks
+  pub settled : t.head.settled ≡ settled_in peer m (contact_at peer m).sent
+  pub marks : t.marks ≡ told_marks t.head.offers peer.member.mesh.machine.has peer.marks
 
 -- a machine that plays with this one is told what it hasn't said that it has; any other is greeted
 abbrev pub IsContentFor : Seen → Peered → ℕ → Content → Type 0
@@ -54,7 +61,7 @@ IsContentFor s peer m (Plays t) =
 IsContentFor s peer m (Greets hello) =
     (says_hello (contact_at peer m) ≡ true)
     × (hello ≡ hello_of (terms_of peer.settings) (opening_of peer.settings) (hello_echo (contact_at peer m)))
-IsContentFor s peer m Leaves = ⊥
+IsContentFor s peer m (Leaves why) = ⊥
 
 -- by what a datagram for a machine is sealed
 abbrev pub with_draws : Peered → ℕ → Key
@@ -67,7 +74,7 @@ with_draws peer m = record {
 abbrev pub key_for : Peered → ℕ → Content → Key
 key_for peer m (Greets hello) = greeting_key (number_for peer.settings m)
 key_for peer m (Plays t) = with_draws peer m
-key_for peer m Leaves = with_draws peer m
+key_for peer m (Leaves why) = with_draws peer m
 
 -- the bytes by which it says something to a machine
 unfoldable pub text_for : Peered → ℕ → Content → List ℕ
@@ -110,6 +117,8 @@ stats_of peer m = record {
   frames_behind = (contact_at peer m).behind;
   their_frames_behind = (contact_at peer m).their_behind;
   refused = (contact_at peer m).refused;
+  dropped = (contact_at peer m).dropped;
+  restarted = not ((contact_at peer m).restarted == 0);
 }
 
 -- what is known of a machine to which a datagram was sent

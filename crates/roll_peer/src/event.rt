@@ -48,7 +48,9 @@ pub enum PeerEvent {
         /// The machine.
         machine: u8,
     },
-    /// A machine has another state than this one at a frame that is settled at both: they don't play the same game.
+    /// A machine has another state than this one at a frame that is settled at both: they don't play the same game. It is the first such
+    /// frame, as far as both machines noted digests; or the least that was found 2 seconds after the first one was, or once the machine
+    /// is gone. Told once of each machine in an epoch.
     Desync {
         /// The other machine.
         machine: u8,
@@ -75,6 +77,8 @@ pub enum PeerEvent {
     Left {
         /// The machine.
         machine: u8,
+        /// Why it left, as its bye said; 0 if none was heard.
+        bye: u8,
     },
     /// A machine was opened anew in the middle of the match. It can't come back to it: its first opening is silent from now on. Told
     /// once of each machine.
@@ -82,7 +86,8 @@ pub enum PeerEvent {
         /// The machine.
         machine: u8,
     },
-    /// A machine gives no words, though it could and this one waits for them.
+    /// A machine holds up the match: it gives no words, though it could and this one waits for them, or takes none of this one's, or
+    /// stays in the epoch before.
     Stalled {
         /// The machine.
         machine: u8,
@@ -93,6 +98,14 @@ pub enum PeerEvent {
     Refused {
         /// The machine.
         machine: u8,
+    },
+    /// A machine knows another mark of a player than this machine: the player's machine told it in two ways, or one of those that tell of
+    /// it lies. Told once of each machine in a match.
+    TwoMarks {
+        /// The machine.
+        machine: u8,
+        /// The player's number, from 1.
+        player: u8,
     },
     /// A machine hasn't come so far. The match waits for it.
     Missing {
@@ -130,6 +143,7 @@ impl PeerEvent {
             PeerEvent::Missing { .. } => 1108,
             PeerEvent::CutOff { .. } => 1109,
             PeerEvent::Strangers { .. } => 1110,
+            PeerEvent::TwoMarks { .. } => 1111,
         }
     }
 }

@@ -1,14 +1,17 @@
 //! How the network of a match goes on in the match's next epoch.
-ghost use Rattle.std.specs.Prelude.{◌≡◌, ◌≢◌, ◌<◌, ◌&&◌, None, OnOk, IfErr, IfOk, nat_lt, not, slice_index_or, ◌==◌};
+ghost use Rattle.std.specs.Prelude.{◌≡◌, ◌≢◌, ◌<◌, ◌&&◌, true, None, OnOk, IfErr, IfOk, nat_lt, not, slice_index_or, ◌==◌};
 ghost use Rattle.roll_member.specs.Joined.{join_refusal};
 ghost use Rattle.roll_mesh.specs.Machines.{is_in, leave};
+ghost use Rattle.roll_mesh.specs.declared.limits.TheConstants.{MACHINE_LIMIT};
 ghost use Rattle.roll_mesh.specs.Meshes.{leave_refusal, stepped};
-ghost use Rattle.roll_peer.specs.Following.{begins_without, contacts_next, gone_first, heard_beside, is_out, known_next, IsFollowedAs};
+ghost use Rattle.roll_peer.specs.Following.{begins_without, contacts_next, dispute_beside, disputes_next, gone_first, heard_beside, is_out, known_next, stalls_next, IsFollowedAs};
 ghost use Rattle.roll_peer.specs.Peered.{without_all, IsWhyNot};
-ghost use Rattle.roll_peer.specs.Settings.{seat_of};
+ghost use Rattle.roll_peer.specs.Settings.{are_delayed_alike, seat_of};
 
+use crate::comparison::Comparison;
 use crate::cut_off::CutOff;
 use crate::digests::Digests;
+use crate::opening::take_seat;
 use crate::pace::Pace;
 use crate::peer::Peer;
 use crate::refusal::OpenRefusal;
@@ -52,7 +55,7 @@ impl Peer {
     ///
     /// # Errors
     ///
-    /// As of `open`.
+    /// As of `open`; but the numbers that its settings share may be 0, since they are made of those of the epoch before.
     pub fn follow<S: Networked>(
         &self,
         alloc: Global,
@@ -63,6 +66,7 @@ impl Peer {
         ensures followed { IfOk result (IsFollowedAs (S.seen session.now) settings self.now seating.now) }
         ensures accepted { OnOk result (join_refusal (S.seen session.now) (seat_of settings) ≡ None) }
         ensures drawn { OnOk result (settings.draw ≢ 0) }
+        ensures delayed { OnOk result (are_delayed_alike (S.seen session.now).settings settings ≡ true) }
         ensures refused { IfErr result (IsWhyNot (S.seen session.now) settings) }
     {
         if settings.draw == 0 {
@@ -71,32 +75,36 @@ impl Peer {
         let Ok(pace) = Pace::new(alloc) else {
             return Err(OpenRefusal::NoMemory);
         };
-        match Member::join(session, settings.seat()) {
+        match take_seat(session, &settings) {
             Ok(member) => Ok(Peer {
                 member: self.without_gone(member, &settings, seating),
                 settings,
                 clock: self.clock,
                 contacts: self.contacts_next(seating),
-                stalls: [Stall::new(); MACHINE_LIMIT],
+                stalls: self.stalls_next(seating),
                 running: self.running,
                 known_gone: self.known_next(seating),
                 events: self.events.copy(),
                 digests: Digests::new(),
+                comparisons: [Comparison::new(); MACHINE_LIMIT],
                 pace,
                 frame: session.frame(),
                 cut_off: CutOff::new(),
                 marks: [None; PLAYER_LIMIT],
                 voids: [false; PLAYER_LIMIT],
+                disputes: self.disputes_next(seating),
                 opened: self.clock.moment,
                 strangers: Strangers::new(),
+                follows: true,
             }),
-            Err(why) => Err(OpenRefusal::Join(why)),
+            Err(why) => Err(why),
         }
     }
 
     /// A machine is heard here too where another network of this same machine has heard it: that of the epoch before, by which alone one
     /// is heard that hasn't come to this epoch yet. So it isn't silent here as long as it is heard there; `Resumed` is told if it was.
-    /// A program calls this for each machine that stays, in each turn, as long as it has both. Nothing happens if there is no such
+    /// What the other network has told of its marks is told here too. A program calls this for each machine that stays, in each turn, as
+    /// long as it has both. Nothing happens if there is no such
     /// other machine, if it is gone, or unless both networks play with the same opening of it.
     pub fn hear_too(&mut self, machine: u8, other: &Peer)
         ensures { self.new ≡ heard_beside machine other.now self.old }
@@ -104,12 +112,14 @@ impl Peer {
         if self.is_lost(machine) {
             return;
         }
+        let player = self.dispute_beside(machine, other);
         let place = usize::from(machine);
         let before = self.contacts[place];
         let mut contact = before;
         contact.hear_too(&other.contacts[place], self.clock.moment);
         self.contacts[place] = contact;
         self.events.heard(machine, &before, &contact);
+        self.tell_dispute(machine, player);
     }
 
     /// Whether a machine is gone as the next epoch begins.
@@ -159,6 +169,47 @@ impl Peer {
             }
         }
         contacts
+    }
+
+    /// Of which machines it was told that they know another mark, as the next epoch begins.
+    fn disputes_next(&self, seating: &[Seating; MACHINE_LIMIT]) -> [Option<u8>; MACHINE_LIMIT]
+        ensures { result ≡ disputes_next self.now seating.now }
+    {
+        let mut disputes = [None; MACHINE_LIMIT];
+        for machine in 0..MACHINE_LIMIT {
+            if matches!(seating[machine], Seating::Stays) {
+                disputes[machine] = self.disputes[machine];
+            }
+        }
+        disputes
+    }
+
+    /// For how long each machine has held up the match as the next epoch begins: not yet; but it is known which ones have begun.
+    fn stalls_next(&self, seating: &[Seating; MACHINE_LIMIT]) -> [Stall; MACHINE_LIMIT]
+        ensures { result ≡ stalls_next self.now seating.now }
+    {
+        let mut stalls = [Stall::new(); MACHINE_LIMIT];
+        for machine in 0..MACHINE_LIMIT {
+            if matches!(seating[machine], Seating::Stays) {
+                stalls[machine].begun = self.has_begun(machine as u8);
+            }
+        }
+        stalls
+    }
+
+    /// Of which player another network of this machine has told that a machine knows another mark, if both play with the same opening
+    /// of it.
+    fn dispute_beside(&self, machine: u8, other: &Peer) -> Option<u8>
+        requires { machine < MACHINE_LIMIT }
+        ensures { result ≡ dispute_beside self.now other.now machine }
+    {
+        let place = usize::from(machine);
+        let (one, another) = (&self.contacts[place], &other.contacts[place]);
+        if one.is_playing() && another.is_playing() && one.draw == another.draw {
+            other.disputes[place]
+        } else {
+            None
+        }
     }
 
     /// Of which machines it was told as the next epoch begins that they are gone.

@@ -1,7 +1,17 @@
 //! Laws of peers, each the contract of a function that makes no call.
+ghost use Rattle.std.specs.Prelude.{◌≡◌, ◌-◌, ◌^◌};
 ghost use Rattle.roll_peer.specs.Laws.{EventsNameMachines, NothingElseIsHeard};
 ghost use Rattle.roll_peer.specs.MarkLaws.{TheyKnowOneMark, WhatWasPutIsKnown, WhoHasTheWordHasItsMark};
 ghost use Rattle.roll_peer.specs.OneMatch.{TwoPeersOneMatch};
+ghost use Rattle.roll_peer.specs.declared.comparison.TheConstants.{SEARCH_LIMIT};
+ghost use Rattle.roll_peer.specs.declared.digests.TheConstants.{DIGEST_LIMIT};
+ghost use Rattle.roll_peer.specs.declared.event.TheConstants.{EVENT_LIMIT};
+ghost use Rattle.roll_peer.specs.declared.marking.TheConstants.{NO_END};
+ghost use Rattle.roll_peer.specs.declared.pace.TheConstants.{ASK_EVERY};
+ghost use Rattle.roll_peer.specs.declared.receiving.TheConstants.{HEAD, KIND_AT, SENDER_AT};
+ghost use Rattle.roll_peer.specs.declared.sending.TheConstants.{SETTLED_EVERY};
+ghost use Rattle.roll_peer.specs.declared.settings.TheConstants.{COMER_PATIENCE};
+ghost use Rattle.roll_peer.specs.declared.stall.TheConstants.{LEAP};
 
 /// A play or a bye is heard only if it was sealed by the draws of this opening and of the sender's one that is believed. With
 /// `roll_contact`'s laws: nothing of another match, of another opening, or for another receiver, unless the hash has a collision.
@@ -30,4 +40,19 @@ pub fn who_has_the_word_has_its_mark()
     ensures owner { WhoHasTheWordHasItsMark }
     ensures any { TheyKnowOneMark }
     ensures put { WhatWasPutIsKnown }
+{}
+
+/// The numbers that clauses cite by name. Times are milliseconds.
+pub fn limits_are()
+    ensures search { SEARCH_LIMIT ≡ 2000 }
+    ensures digests { DIGEST_LIMIT ≡ 256 }
+    ensures settled_every { SETTLED_EVERY ≡ 64 }
+    ensures events { EVENT_LIMIT ≡ 64 }
+    ensures comer_patience { COMER_PATIENCE ≡ 10000 }
+    ensures leap { LEAP ≡ 1000 }
+    ensures ask_every { ASK_EVERY ≡ 40 }
+    ensures no_end { NO_END ≡ 2 ^ 32 - 1 }
+    ensures sender_at { SENDER_AT ≡ 12 }
+    ensures kind_at { KIND_AT ≡ 13 }
+    ensures head { HEAD ≡ 14 }
 {}

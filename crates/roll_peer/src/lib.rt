@@ -1,8 +1,10 @@
 //! The network of a match at one machine, beside its session.
 #![tactic(auto)]
 
+mod comparison;
 mod cut_off;
 mod digests;
+mod disputes;
 mod event;
 mod following;
 mod judging;
@@ -10,6 +12,7 @@ mod keys;
 mod laws;
 mod marking;
 mod notices;
+mod opening;
 mod pace;
 mod peer;
 mod received;
@@ -28,7 +31,8 @@ pub use cut_off::CutOff;
 pub use event::PeerEvent;
 pub use following::Seating;
 pub use laws::{
-    events_name_machines, nothing_else_is_heard, two_peers_one_match, who_has_the_word_has_its_mark,
+    events_name_machines, limits_are, nothing_else_is_heard, two_peers_one_match,
+    who_has_the_word_has_its_mark,
 };
 pub use peer::Peer;
 pub use received::{Ignored, Received};

@@ -3,8 +3,8 @@ ghost use Rattle.std.specs.Prelude.{◌≡◌, ◌-◌, ◌<◌, ◌&&◌, lengt
 ghost use Rattle.roll_member.specs.Beside.{IsOf};
 ghost use Rattle.roll_mesh.specs.declared.limits.TheConstants.{PLAYER_LIMIT};
 ghost use Rattle.roll_peer.specs.Marking.{is_numbered, is_own_first, mark_refusal, voided, IsMarkedAs, IsWhyUnmarked};
-ghost use Rattle.roll_peer.specs.Marks.{end_among, end_by, if_offered, if_there, kept_with, offered_marks, told_with, unless_there};
-ghost use Rattle.roll_wire.specs.Spelling.{are_placed, are_spelled, has_players};
+ghost use Rattle.roll_peer.specs.Marks.{end_among, end_by, if_offered, if_offered_or_there, if_there, kept_with, offered_marks, told_marks, told_with, unless_there};
+ghost use Rattle.roll_wire.specs.Spelling.{are_spelled, has_players};
 
 use crate::peer::Peer;
 use crate::refusal::MarkRefusal;
@@ -152,18 +152,31 @@ impl Peer {
         end
     }
 
-    /// The marks of words that are offered.
-    pub(crate) fn offered_marks(&self, offers: &[Offer; PLAYER_LIMIT]) -> KnownMarks
-        ensures marks { result ≡ offered_marks offers.now self.now.marks }
-        ensures placed { are_placed offers.now result ≡ true }
+    /// The marks of words that are offered, and of all others that are there.
+    pub(crate) fn told_marks(&self, offers: &[Offer; PLAYER_LIMIT]) -> KnownMarks
+        ensures marks { result ≡ told_marks offers.now self.now.member.mesh.machine.has self.now.marks }
         ensures spelled { are_spelled result ≡ true }
     {
+        let has = self.member.mesh().has();
         let mut marks = [None; PLAYER_LIMIT];
         for player in 0..PLAYER_LIMIT {
-            marks[player] = if_offered(&offers[player], self.marks[player]);
+            marks[player] = if_offered_or_there(&offers[player], has[player], self.marks[player]);
         }
         marks
     }
+}
+
+/// Those of some marks whose words are offered.
+pub(crate) fn offered_marks(offers: &[Offer; PLAYER_LIMIT], marks: &KnownMarks) -> KnownMarks
+    requires { are_spelled marks.now ≡ true }
+    ensures marks { result ≡ offered_marks offers.now marks.now }
+    ensures spelled { are_spelled result ≡ true }
+{
+    let mut offered = [None; PLAYER_LIMIT];
+    for player in 0..PLAYER_LIMIT {
+        offered[player] = if_offered(&offers[player], marks[player]);
+    }
+    offered
 }
 
 /// Whether a player has such a number, counted from 1.
@@ -217,4 +230,11 @@ fn if_offered(offer: &Offer, marked: Option<Marked>) -> Option<Marked>
     } else {
         None
     }
+}
+
+/// A mark, if its word is offered, or is among so many.
+fn if_offered_or_there(offer: &Offer, count: u32, marked: Option<Marked>) -> Option<Marked>
+    ensures { result ≡ if_offered_or_there offer.now count marked }
+{
+    if_offered(offer, marked).or(if_there(count, marked))
 }

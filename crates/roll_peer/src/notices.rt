@@ -1,14 +1,12 @@
 //! What a peer tells its program.
 ghost use Rattle.std.specs.Prelude.{◌≡◌};
 ghost use Rattle.roll_mesh.specs.declared.limits.TheConstants.{PLAYER_LIMIT as PLAYERS};
-ghost use Rattle.roll_peer.specs.Notices.{after_heard, came, desync, found_out, newly, place_of, player_left, refusing, restarting, resumed, told, told_of};
+ghost use Rattle.roll_peer.specs.Notices.{after_heard, came, found_out, newly, place_of, player_left, refusing, restarting, resumed, told, told_of};
 
-use crate::digests::Digests;
 use crate::event::{Events, PeerEvent};
 use roll_contact::{Contact, Field, Stage};
 use roll_member::Left;
 use roll_mesh::PLAYER_LIMIT;
-use roll_wire::Settled;
 
 impl Events {
     /// Tells an event, if there is one.
@@ -30,19 +28,6 @@ impl Events {
         self.tell(found_out(machine, before.differs, after.differs));
         self.tell(restarting(machine, before, after));
         self.tell(refusing(machine, before, after));
-    }
-
-    /// A machine's settled state may be another than the one that this machine had at that frame.
-    pub(crate) fn compare(&mut self, digests: &Digests, machine: u8, settled: Option<Settled>)
-        ensures { self.new ≡ told self.old (desync digests.now machine settled) }
-    {
-        let Some(Settled { frame, digest }) = settled else {
-            return;
-        };
-        match digests.at(frame) {
-            Some(ours) if ours != digest => self.push(PeerEvent::Desync { machine, frame }),
-            _ => {}
-        }
     }
 
     /// Players left the session.
@@ -95,6 +80,8 @@ fn place_of(field: Field) -> u8
         Field::Owners => 1,
         Field::Settings => 2,
         Field::Words => 3,
+        Field::Lasting => 4,
+        Field::Opening => 5,
     }
 }
 

@@ -10,12 +10,14 @@ ghost use Rattle.roll_peer.specs.Digests.{noted};
 ghost use Rattle.roll_peer.specs.Events.{popped};
 ghost use Rattle.roll_peer.specs.Peered.{contact_at, BeginsAs, IsOpenedAs, IsWhyNot};
 ghost use Rattle.roll_peer.specs.Receiving.{meeting, IsOther};
-ghost use Rattle.roll_peer.specs.Settings.{seat_of};
+ghost use Rattle.roll_peer.specs.Settings.{are_delayed_alike, has_numbers, seat_of};
 
+use crate::comparison::Comparison;
 use crate::cut_off::CutOff;
 use crate::digests::Digests;
 use crate::event::{Events, PeerEvent};
 use crate::marking::KnownMarks;
+use crate::opening::take_seat;
 use crate::pace::Pace;
 use crate::refusal::{OpenRefusal, OtherSession};
 use crate::settings::MatchSettings;
@@ -47,13 +49,16 @@ pub struct Peer {
     pub(crate) known_gone: [bool; MACHINE_LIMIT],
     pub(crate) events: Events,
     pub(crate) digests: Digests,
+    pub(crate) comparisons: [Comparison; MACHINE_LIMIT],
     pub(crate) pace: Pace,
     pub(crate) frame: u32,
     pub(crate) cut_off: CutOff,
     pub(crate) marks: KnownMarks,
     pub(crate) voids: [bool; PLAYER_LIMIT],
+    pub(crate) disputes: [Option<u8>; MACHINE_LIMIT],
     pub(crate) opened: u32,
     pub(crate) strangers: Strangers,
+    pub(crate) follows: bool,
 }
 
 /// A clause sees all of it.
@@ -76,13 +81,16 @@ impl Model for Peer {
       waiting = p.events;
       known_gone = p.known_gone;
       digests = p.digests;
+      comparisons = p.comparisons;
       pace = p.pace;
       frame = p.frame;
       cut_off = p.cut_off;
       marks = p.marks;
       voids = p.voids;
+      disputes = p.disputes;
       opened = p.opened;
       strangers = p.strangers;
+      follows = p.follows;
     } };
 
     ghost invariant = { λ p. (p.member.mesh.seat ≡ seat_of p.settings)
@@ -96,7 +104,8 @@ impl Peer {
     ///
     /// # Errors
     ///
-    /// If the settings have no draw, there is no memory, or the session can't take its seat.
+    /// The first of these that holds: the settings have no draw; a number that they share with another machine is 0; there is no
+    /// memory; the words of an input of this machine have not one delay; the session can't take its seat.
     pub fn open<S: Networked>(
         alloc: Global,
         session: &S,
@@ -107,15 +116,20 @@ impl Peer {
         ensures begins { IfOk result (BeginsAs (S.seen session.now) settings []) }
         ensures accepted { OnOk result (join_refusal (S.seen session.now) (seat_of settings) ≡ None) }
         ensures drawn { OnOk result (settings.draw ≢ 0) }
+        ensures numbered { OnOk result (has_numbers settings ≡ true) }
+        ensures delayed { OnOk result (are_delayed_alike (S.seen session.now).settings settings ≡ true) }
         ensures refused { IfErr result (IsWhyNot (S.seen session.now) settings) }
     {
         if settings.draw == 0 {
             return Err(OpenRefusal::NoDraw);
         }
+        if !settings.has_numbers() {
+            return Err(OpenRefusal::NoNumber);
+        }
         let Ok(pace) = Pace::new(alloc) else {
             return Err(OpenRefusal::NoMemory);
         };
-        match Member::join(session, settings.seat()) {
+        match take_seat(session, &settings) {
             Ok(member) => Ok(Peer {
                 member,
                 settings,
@@ -126,15 +140,18 @@ impl Peer {
                 known_gone: [false; MACHINE_LIMIT],
                 events: Events::new(),
                 digests: Digests::new(),
+                comparisons: [Comparison::new(); MACHINE_LIMIT],
                 pace,
                 frame: session.frame(),
                 cut_off: CutOff::new(),
                 marks: [None; PLAYER_LIMIT],
                 voids: [false; PLAYER_LIMIT],
+                disputes: [None; MACHINE_LIMIT],
                 opened: settings.first_moment(),
                 strangers: Strangers::new(),
+                follows: false,
             }),
-            Err(why) => Err(OpenRefusal::Join(why)),
+            Err(why) => Err(why),
         }
     }
 
@@ -158,7 +175,7 @@ impl Peer {
     }
 
     /// Notes the digest of the session's settled state, by which the machines see that they play the same game. It stays until
-    /// that of a frame is noted which is a multiple of 128 frames later.
+    /// that of a frame is noted which is a multiple of 256 frames later.
     ///
     /// # Errors
     ///

@@ -13,6 +13,7 @@ ghost use Rattle.roll_wire.specs.Reading.{Gives};
 ghost use Rattle.roll_wire.specs.Spelling.{are_spelled, content, message, turn, Plays};
 
 use crate::judging::{are_no_more, is_inside};
+use crate::marking::offered_marks;
 use crate::peer::Peer;
 use crate::received::{Ignored, Received};
 use roll_contact::seal::unseal;
@@ -214,8 +215,8 @@ impl Peer {
                 Ok(Received::Hello { sender })
             }
             Body::Play(play) => self.hear_play(session, sender, &play),
-            Body::Bye => {
-                self.hear_bye(sender);
+            Body::Bye { why } => {
+                self.hear_bye(sender, why);
                 Ok(Received::Bye { sender })
             }
         }
@@ -308,8 +309,10 @@ impl Peer {
     {
         let frame = session.frame();
         let taken = self.take_turn(session, sender, play, packet)?;
-        self.know_turn(sender, play, frame, taken.refusal.is_some());
-        self.end_if(is_dropped(taken.heard));
+        let dropped = is_dropped(taken.heard);
+        self.know_turn(sender, play, frame, taken.refusal.is_some(), dropped);
+        self.dispute(sender, play);
+        self.end_if(dropped);
         Some(taken)
     }
 
@@ -341,7 +344,7 @@ impl Peer {
         ensures session { IsNone result → session.new ≡ session.old }
         ensures keeps { S.keeps session.old session.new }
     {
-        let told = self.told_with(&play.marks);
+        let told = self.told_with(&offered_marks(&play.head.offers, &play.marks));
         let end = self.end_among(&told);
         let taken = self.take_words(session, sender, play, packet, end)?;
         self.marks = self.kept_with(&told);
@@ -379,29 +382,29 @@ impl Peer {
     }
 
     /// What a turn tells of its sender is known, and told.
-    fn know_turn(&mut self, sender: u8, play: &Play, frame: u32, refused: bool)
+    fn know_turn(&mut self, sender: u8, play: &Play, frame: u32, refused: bool, dropped: bool)
         requires { sender < MACHINE_LIMIT }
         ensures { self.new ≡ knowing (turn play.now) sender
-            (after_words refused play.now.head frame (moment_of self.old) (contact_at self.old sender)) self.old }
+            (after_words refused dropped play.now.head frame (moment_of self.old) (contact_at self.old sender)) self.old }
     {
         let place = usize::from(sender);
         let before = self.contacts[place];
-        let contact = after_words(before, &play.head, frame, self.clock.moment, refused);
+        let now = self.clock.moment;
+        let contact = after_words(before, &play.head, frame, now, refused, dropped);
         self.contacts[place] = contact;
         self.events.heard(sender, &before, &contact);
-        self.events
-            .compare(&self.digests, sender, play.head.settled);
+        self.compare(sender, play.head.settled);
     }
 
     /// A bye is heard.
-    fn hear_bye(&mut self, sender: u8)
+    fn hear_bye(&mut self, sender: u8, why: u8)
         requires place { sender < MACHINE_LIMIT }
         requires listened { deaf_to self.old sender ≡ None }
-        ensures { HearsBye self.old self.new sender }
+        ensures { HearsBye self.old self.new sender why }
     {
         let place = usize::from(sender);
         let mut contact = self.contacts[place];
-        contact.heard(self.clock.moment);
+        contact.heard_bye(why, self.clock.moment);
         self.contacts[place] = contact;
         let _ = self.member.leave(sender);
     }
@@ -483,12 +486,22 @@ fn is_unknown(why: Ignored) -> bool
     )
 }
 
-/// What is known of a machine once its turn was heard, of which words may have been refused.
-fn after_words(before: Contact, head: &Head, frame: u32, now: u32, refused: bool) -> Contact
-    ensures { result ≡ after_words refused head.now frame now before }
+/// What is known of a machine once its turn was heard, of which words may have been refused, and which may have called this one gone.
+fn after_words(
+    before: Contact,
+    head: &Head,
+    frame: u32,
+    now: u32,
+    refused: bool,
+    dropped: bool,
+) -> Contact
+    ensures { result ≡ after_words refused dropped head.now frame now before }
 {
     let mut contact = before;
     contact.play(head.number, head.clocks, frame, now);
+    if dropped {
+        contact.call_gone();
+    }
     if refused {
         contact.refuse();
     }

@@ -12,6 +12,12 @@ pub enum OpenRefusal {
     /// The settings have no draw: it is 0.
     #[error("the opening has no draw")]
     NoDraw,
+    /// A number that the settings share with another machine of the match is 0. An epoch that follows another takes any.
+    #[error("no number is shared with a machine")]
+    NoNumber,
+    /// The words of an input of this machine have not one delay in the session's settings.
+    #[error("the words of an input have different delays")]
+    Delays,
     /// The allocator has no room.
     #[error("no memory")]
     NoMemory,

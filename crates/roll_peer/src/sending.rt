@@ -149,14 +149,17 @@ impl Peer {
         }
     }
 
-    /// The digest of the last settled state that was noted: in one packet of 64.
-    fn settled_for(&self, contact: &Contact) -> Option<Settled>
-        ensures { result ≡ settled_in self.now contact.now }
+    /// The digest of the last settled state that was noted, in one packet of 64; to a machine whose states differ one by which the
+    /// first frame that does is sought.
+    fn settled_for(&self, machine: u8, number: u32) -> Option<Settled>
+        requires { machine < MACHINE_LIMIT }
+        ensures { result ≡ settled_in self.now machine number }
     {
-        if contact.sent % SETTLED_EVERY == 1 {
-            self.digests.last()
-        } else {
-            None
+        let comparison = self.comparisons[usize::from(machine)];
+        match comparison.sought(self.clock.moment) {
+            Some(differs) => comparison.seeking(&self.digests, number, differs),
+            None if number % SETTLED_EVERY == 1 => self.digests.last(),
+            None => None,
         }
     }
 
@@ -170,12 +173,12 @@ impl Peer {
         let Told { packet, words } = self.member.tell(session, machine);
         let Packet { view, offers, .. } = packet.shortened();
         let contact = self.contacts[usize::from(machine)];
-        let marks = self.offered_marks(&offers);
+        let marks = self.told_marks(&offers);
         let head = Head {
             number: contact.sent,
             clocks: self.clocks_for(session.frame(), &contact),
             view,
-            settled: self.settled_for(&contact),
+            settled: self.settled_for(machine, contact.sent),
             offers,
         };
         Play { head, marks, words }
@@ -202,21 +205,23 @@ impl Peer {
             frames_behind: contact.behind,
             their_frames_behind: contact.their_behind,
             refused: contact.refused,
+            dropped: contact.dropped,
+            restarted: contact.restarted != 0,
         })
     }
 
-    /// The bytes that say to a machine that this one leaves the match. Send them a few times, since they may be lost. None if there is
-    /// no such machine, it is this one, it is gone, or it hasn't said this opening's draw.
-    pub fn bye(&self, machine: u8) -> Option<ArrayVec<u8, DATAGRAM_LIMIT>>
-        ensures said { IfSome result (λ bytes. bytes.items ≡ text_for self.now machine Leaves) }
+    /// The bytes that say to a machine that this one leaves the match, and why: whatever the program means by it. Send them a few times,
+    /// since they may be lost. None if there is no such machine, it is this one, it is gone, or it hasn't said this opening's draw.
+    pub fn bye(&self, machine: u8, why: u8) -> Option<ArrayVec<u8, DATAGRAM_LIMIT>>
+        ensures said { IfSome result (λ bytes. bytes.items ≡ text_for self.now machine (Leaves why)) }
         ensures fits { IfSome result (λ bytes.
-            Fits (message_by (key_for self.now machine Leaves) self.now.settings.me Leaves)) }
+            Fits (message_by (key_for self.now machine (Leaves why)) self.now.settings.me (Leaves why))) }
         ensures none { is_none result
             ≡ (is_lost self.now machine || not (is_playing (contact_at self.now machine).stage)) }
     {
         if self.is_lost(machine) || !self.contacts[usize::from(machine)].is_playing() {
             return None;
         }
-        Some(self.sealed_for(machine, Body::Bye))
+        Some(self.sealed_for(machine, Body::Bye { why }))
     }
 }

@@ -1,9 +1,10 @@
 //! What the machines of a match are told.
 ghost use Rattle.std.specs.Prelude.{◌≡◌, ◌<◌};
-ghost use Rattle.roll_mesh.specs.declared.limits.TheConstants.{MACHINE_LIMIT};
-ghost use Rattle.roll_peer.specs.Settings.{first_moment, number_for, opening_of, patience_of, seat_of, terms_of};
+ghost use Rattle.roll_mesh.specs.declared.limits.TheConstants.{MACHINE_LIMIT, PLAYER_LIMIT};
+ghost use Rattle.roll_peer.specs.Settings.{are_delayed_alike, farthest_of, first_moment, has_number_for, has_numbers, is_delayed_alike, number_for, opening_of, patience_of, seat_of, terms_of};
 
 use roll_contact::{Opening, Terms};
+use roll_frame::Settings;
 use roll_mesh::{MACHINE_LIMIT, PLAYER_LIMIT, Seat};
 
 /// For how many milliseconds one who comes is waited for, if nobody is ever silent for too long.
@@ -21,19 +22,23 @@ pub struct MatchSettings {
     /// The machine that owns each player, player 1 first; 255 if there is no such player.
     pub owners: [u8; PLAYER_LIMIT],
     /// The number that this machine shares with each other one, drawn by whoever arranges the match; its own place isn't read. If it
-    /// is the same for all, it is the match's. With one for each pair of machines, none can speak for another.
+    /// is the same for all, it is the match's. With one for each pair of machines, none can speak for another. None of them is 0.
     pub numbers: [u64; MACHINE_LIMIT],
     /// 64 bits drawn for this opening alone, which aren't 0.
     pub draw: u64,
-    /// A digest of all else that must be alike: the game, its opening, the session's limits.
+    /// A digest of all else that must be alike, but for the opening state: the game, the session's limits.
     pub digest: u64,
+    /// A digest of the state with which the game opens: the same at all machines.
+    pub opening: u64,
     /// After how many milliseconds of silence a machine is regarded as gone; 0: never. So long one who comes with an epoch is waited for,
     /// or 10 seconds if this is 0.
     pub silent_after: u32,
-    /// After how many milliseconds of silence `Interrupted` is told, and `Stalled` of a machine that gives no words; 0: never.
+    /// After how many milliseconds of silence `Interrupted` is told, and `Stalled` of a machine that holds up the match; 0: never.
     pub notify_after: u32,
-    /// After how many milliseconds a machine that others wait for, and that could give its next word, is regarded as gone; 0: never. One
-    /// that hasn't said that it is past its first frame isn't: others may keep it from beginning.
+    /// After how many milliseconds a machine that others wait for, and that could give its next word, or take theirs, is regarded as
+    /// gone; 0: never. Where a third one may keep it from that, it is waited for `silent_after` longer. One that has never shown that it
+    /// is past its first frame isn't gone by this: others may keep it from beginning. In an epoch that follows another, one that doesn't
+    /// play on is waited for so much longer than one who comes.
     pub stalled_after: u32,
     /// Whether this machine hands on datagrams of others where a line is broken, and has its own handed on. It does so only with those
     /// that say so too.
@@ -68,6 +73,8 @@ impl MatchSettings {
             owners: self.owners,
             digest: self.digest,
             words: self.words,
+            opening: self.opening,
+            lasts: self.takes_marks,
         }
     }
 
@@ -82,7 +89,7 @@ impl MatchSettings {
         }
     }
 
-    /// For how many milliseconds one who comes with an epoch is waited for.
+    /// After how many milliseconds a machine would be gone that was silent in the epoch before.
     pub(crate) fn patience(&self) -> u32
         ensures { result ≡ patience_of self.now }
     {
@@ -93,11 +100,60 @@ impl MatchSettings {
         }
     }
 
+    /// After how many milliseconds one who doesn't play on in an epoch that follows another is gone.
+    pub(crate) fn farthest(&self) -> u32
+        ensures { result ≡ farthest_of self.now }
+    {
+        self.patience()
+            .saturating_add(self.silent_after)
+            .saturating_add(self.stalled_after)
+    }
+
     /// The moment that its clock shows first: none that another opening's clock is likely to show.
     pub(crate) fn first_moment(&self) -> u32
         ensures { result ≡ first_moment self.now }
     {
         (self.draw % (1 << 32)) as u32
+    }
+
+    /// Whether the numbers that it shares with the other machines aren't 0.
+    pub(crate) fn has_numbers(&self) -> bool
+        ensures { result ≡ has_numbers self.now }
+    {
+        for machine in 0..MACHINE_LIMIT as u8 {
+            if !self.has_number_for(machine) {
+                return false;
+            }
+        }
+        true
+    }
+
+    fn has_number_for(&self, machine: u8) -> bool
+        requires { machine < MACHINE_LIMIT }
+        ensures { result ≡ has_number_for self.now machine }
+    {
+        machine >= self.machines || machine == self.me || self.number_for(machine) != 0
+    }
+
+    /// Whether the words of each of its own inputs have one delay in a session's settings.
+    pub(crate) fn are_delayed_alike(&self, session: &Settings) -> bool
+        ensures { result ≡ are_delayed_alike session.now self.now }
+    {
+        for player in 0..PLAYER_LIMIT {
+            if !self.is_delayed_alike(session, player) {
+                return false;
+            }
+        }
+        true
+    }
+
+    /// Whether a player has the delay of the first word of its input, if it is this machine's.
+    fn is_delayed_alike(&self, session: &Settings, player: usize) -> bool
+        requires { player < PLAYER_LIMIT }
+        ensures { result ≡ is_delayed_alike session.now self.now player }
+    {
+        let first = self.seat().first_of(player);
+        self.owners[player] != self.me || session.delays[player] == session.delays[first]
     }
 
     /// The number that it shares with a machine.

@@ -19,4 +19,8 @@ pub struct Stats {
     pub their_frames_behind: i32,
     /// How many packets that the other sealed were refused, or words in them.
     pub refused: u32,
+    /// How many packets of the other called this machine gone.
+    pub dropped: u32,
+    /// Whether the other was opened anew in the middle of the match.
+    pub restarted: bool,
 }

@@ -2,17 +2,19 @@
 ghost use Rattle.std.specs.Prelude.{◌≡◌, ◌<◌, ◌≤◌, true, false, None, Some, Err, IfErr, OnOk, if◌then◌else◌, slice_get};
 ghost use Rattle.std.specs.Option.{option_map_or};
 ghost use Rattle.roll_member.specs.Joined.{IsTied};
+ghost use Rattle.roll_mesh.specs.HoldingUp.{is_free};
 ghost use Rattle.roll_mesh.specs.declared.limits.TheConstants.{MACHINE_LIMIT};
 ghost use Rattle.roll_peer.specs.Receiving.{meeting, moment_of, ticking};
 ghost use Rattle.roll_peer.specs.Rolling.{RollsOnce, TurnsOnce};
 ghost use Rattle.roll_session.specs.Changes.{after_sync, sync_refusal, IsRollRefused};
-ghost use Rattle.roll_peer.specs.Turning.{are_ready, begun, ends_in_roll, farewell_at, farewell_until, has_played, has_waited, held_up_by, hushed_at, hushed_until, is_graft, is_late, is_missed, is_mistaken, is_out, is_ready_at, is_roll, looked_after, missed_at, missed_until, moved_to, over, silenced_at, silenced_until, stall_told, strangers_told, time_left, watched_at, watched_until, IsParted, IsPolled, IsUpToDate, Plays, Polls, Turns};
+ghost use Rattle.roll_peer.specs.Turning.{are_ready, before_end, begun, ends_in_roll, farewell_at, farewell_until, has_begun, has_come, has_waited, hushed_at, hushed_until, is_absent, is_coming, is_due, is_graft, is_late, is_missed, is_mistaken, is_out, is_ready_at, is_roll, is_stalled, looked_after, missed_at, missed_until, moved_to, or_taking, over, overtime, plays_on, silenced_at, silenced_until, stall_limit, stall_told, stays_behind, strangers_told, time_left, timed, wait_of_words, waited_for, watched_at, watched_until, IsParted, IsPolled, IsUpToDate, Plays, Polls, Turns};
 
 use crate::event::PeerEvent;
 use crate::peer::Peer;
 use crate::refusal::PeerRefusal;
+use crate::stall::Wait;
 use roll_contact::since;
-use roll_frame::Refusal;
+use roll_frame::{DELAY_LIMIT, Refusal};
 use roll_game::Game;
 use roll_session::{Call, Log, Logged, Networked, Reached, Session};
 
@@ -94,6 +96,7 @@ impl Peer {
         self.hush(machines, now);
         self.miss(machines, now);
         self.tell_strangers(now);
+        self.tell_desyncs(machines, now);
         self.tell_who_is_gone(machines);
     }
 
@@ -137,14 +140,69 @@ impl Peer {
         self.cut_off.hears_most && (is_silent || self.is_late(machine, now))
     }
 
-    /// Whether a machine that was to come with this epoch hasn't come for too long.
+    /// Whether a machine hasn't come to this epoch for too long.
     fn is_late(&self, machine: u8, now: u32) -> bool
         requires { machine < MACHINE_LIMIT }
         ensures { result ≡ is_late self.now now machine }
     {
-        self.running
-            && !self.is_ready(machine)
-            && since(now, self.opened) > self.settings.patience()
+        self.running && (self.is_absent(machine, now) || self.stays_behind(machine, now))
+    }
+
+    /// Whether a machine was never heard, and is waited for no longer.
+    fn is_absent(&self, machine: u8, now: u32) -> bool
+        requires { machine < MACHINE_LIMIT }
+        ensures { result ≡ is_absent self.now now machine }
+    {
+        !self.is_ready(machine) && self.overtime(now) > self.settings.silent_after
+    }
+
+    /// Whether a machine is heard and doesn't play on, though whoever could keep it from that would be gone by now.
+    fn stays_behind(&self, machine: u8, now: u32) -> bool
+        requires { machine < MACHINE_LIMIT }
+        ensures { result ≡ stays_behind self.now now machine }
+    {
+        let kept = u64::from(self.settings.silent_after) + u64::from(self.settings.stalled_after);
+        self.is_due(machine, now) && u64::from(self.overtime(now)) > kept
+    }
+
+    /// Whether a machine that doesn't play on in this epoch will be gone for that.
+    fn is_due(&self, machine: u8, now: u32) -> bool
+        requires { machine < MACHINE_LIMIT }
+        ensures { result ≡ is_due self.now now machine }
+    {
+        self.follows && !self.plays_on(machine, now) && self.settings.stalled_after > 0
+    }
+
+    /// For how long this network has been open past the time for which one who comes is waited for.
+    fn overtime(&self, now: u32) -> u32
+        ensures { result ≡ overtime self.now now }
+    {
+        since(now, self.opened).saturating_sub(self.settings.patience())
+    }
+
+    /// Whether a machine plays on in this epoch, or needn't.
+    fn plays_on(&self, machine: u8, now: u32) -> bool
+        requires { machine < MACHINE_LIMIT }
+        ensures { result ≡ plays_on self.now now machine }
+    {
+        let mesh = self.member.mesh();
+        machine == mesh.seat().me
+            || mesh.is_gone(machine)
+            || self.has_come(machine, now) && self.has_begun(machine)
+    }
+
+    /// Whether a machine has told its clocks in this epoch.
+    #[tactic(auto, unfolding(crate::specs::Turning::has_come))]
+    fn has_come(&self, machine: u8, now: u32) -> bool
+        requires { machine < MACHINE_LIMIT }
+        ensures { result ≡ has_come self.now now machine }
+    {
+        let place = usize::from(machine);
+        let came = match self.contacts[place].their_clocks {
+            Some(theirs) => since(now, theirs.heard_at) < since(now, self.opened),
+            None => false,
+        };
+        self.stalls[place].came || came
     }
 
     /// Machines that hold up the match are watched.
@@ -158,20 +216,41 @@ impl Peer {
         }
     }
 
+    #[tactic(auto, unfolding(crate::specs::Turning::watched_at))]
     fn watch_one(&mut self, machine: u8, now: u32)
         requires { machine < MACHINE_LIMIT }
         ensures { self.new ≡ watched_at now machine self.old }
     {
-        let held = self.held_up_by(machine);
-        let place = usize::from(machine);
-        self.stalls[place].watch(held, now);
+        self.time(machine, now);
         self.tell_stall(machine, now);
-        if self.cut_off.hears_most
-            && self.has_played(machine)
-            && self.stalls[place].is_overdue(now, self.settings.stalled_after)
-        {
+        if self.is_stalled(machine, now) {
             let _ = self.member.leave(machine);
         }
+    }
+
+    /// Whether a machine has held up the match for too long, and nobody else keeps it from beginning or coming.
+    fn is_stalled(&self, machine: u8, now: u32) -> bool
+        requires { machine < MACHINE_LIMIT }
+        ensures { result ≡ is_stalled self.now now machine }
+    {
+        let stall = self.stalls[usize::from(machine)];
+        self.cut_off.hears_most
+            && self.has_begun(machine)
+            && !self.is_coming(machine, now)
+            && stall.is_overdue(now, self.stall_limit(machine))
+    }
+
+    /// Notes for how long a machine has held up the match, and whether it has begun and come.
+    fn time(&mut self, machine: u8, now: u32)
+        requires { machine < MACHINE_LIMIT }
+        ensures { self.new ≡ timed now machine self.old }
+    {
+        let place = usize::from(machine);
+        let mut stall = self.stalls[place];
+        stall.watch(self.waited_for(machine, now), now);
+        stall.begun = self.has_begun(machine);
+        stall.came = self.has_come(machine, now);
+        self.stalls[place] = stall;
     }
 
     /// Tells for how long a machine has held up the match, if that is due.
@@ -196,34 +275,93 @@ impl Peer {
         requires { machine < MACHINE_LIMIT }
         ensures { result ≡ time_left self.now now machine }
     {
-        if self.has_played(machine) {
+        if self.is_due(machine, now) {
+            let opened_for = since(now, self.opened);
+            self.settings.farthest().saturating_sub(opened_for)
+        } else if self.has_begun(machine) {
             let lasted = self.stalls[usize::from(machine)].lasted(now);
-            self.settings.stalled_after.saturating_sub(lasted)
+            self.stall_limit(machine).saturating_sub(lasted)
         } else {
             0
         }
     }
 
-    /// Whether a machine has said that it is past its first frame: one that hasn't may be kept from beginning by others.
-    fn has_played(&self, machine: u8) -> bool
+    /// For how many milliseconds a machine may hold up the match, 0 if it may for ever.
+    fn stall_limit(&self, machine: u8) -> u32
         requires { machine < MACHINE_LIMIT }
-        ensures { result ≡ has_played self.now machine }
+        ensures { result ≡ stall_limit self.now self.now.member.mesh machine }
     {
-        match self.contacts[usize::from(machine)].their_clocks {
-            Some(theirs) => theirs.frame > 0,
-            None => false,
+        let stalled_after = self.settings.stalled_after;
+        let is_taking = self.stalls[usize::from(machine)].is_taking();
+        if stalled_after == 0 {
+            0
+        } else if !is_taking && self.is_free(machine) {
+            stalled_after
+        } else {
+            self.settings.patience().saturating_add(stalled_after)
         }
     }
 
-    /// At how many words a machine holds up the match, if it does.
-    fn held_up_by(&self, machine: u8) -> Option<u32>
-        ensures { result ≡ held_up_by self.now machine }
+    /// Whether nothing can keep a machine from going on that this one doesn't see.
+    fn is_free(&self, machine: u8) -> bool
+        ensures { result ≡ is_free self.now.member.mesh.seat self.now.member.mesh.machine
+            self.now.member.limits.threshold machine }
+    {
+        self.member
+            .mesh()
+            .is_free(machine, self.member.limits().threshold)
+    }
+
+    /// Whether a machine has ever shown that it is past its first frame: one that hasn't may be kept from beginning by others.
+    #[tactic(auto, unfolding(crate::specs::Turning::has_begun))]
+    pub(crate) fn has_begun(&self, machine: u8) -> bool
+        requires { machine < MACHINE_LIMIT }
+        ensures { result ≡ has_begun self.now machine }
+    {
+        let place = usize::from(machine);
+        let says_so = match self.contacts[place].their_clocks {
+            Some(theirs) => theirs.frame > 0,
+            None => false,
+        };
+        self.stalls[place].begun || says_so || self.member.mesh().given(machine) > DELAY_LIMIT + 1
+    }
+
+    /// Whether a machine that was heard hasn't come to this epoch.
+    fn is_coming(&self, machine: u8, now: u32) -> bool
+        requires { machine < MACHINE_LIMIT }
+        ensures { result ≡ is_coming self.now now machine }
+    {
+        let mesh = self.member.mesh();
+        self.follows
+            && machine != mesh.seat().me
+            && !mesh.is_gone(machine)
+            && self.contacts[usize::from(machine)].confirmed
+            && !self.has_come(machine, now)
+    }
+
+    /// What a machine is waited for, if it holds up the match.
+    fn waited_for(&self, machine: u8, now: u32) -> Option<Wait>
+        requires { machine < MACHINE_LIMIT }
+        ensures { result ≡ waited_for self.now now machine }
     {
         if !self.running {
-            return None;
+            None
+        } else if self.is_coming(machine, now) {
+            Some(Wait::Coming)
+        } else {
+            self.wait_of_words(machine)
         }
+    }
+
+    /// What of words a machine is waited for.
+    fn wait_of_words(&self, machine: u8) -> Option<Wait>
+        ensures { result ≡ wait_of_words self.now self.now.member.mesh machine }
+    {
         let threshold = self.member.limits().threshold;
-        self.member.mesh().holds_up(machine, threshold)
+        let mesh = self.member.mesh();
+        let end = self.end_among(&self.marks);
+        let given = before_end(end, mesh.holds_up(machine, threshold));
+        or_taking(given, before_end(end, mesh.lacks(machine)))
     }
 
     /// Tells of machines that have been silent for long.
@@ -324,7 +462,8 @@ impl Peer {
         let place = usize::from(machine);
         if self.member.mesh().is_gone(machine) && !self.known_gone[place] {
             self.known_gone[place] = true;
-            self.events.push(PeerEvent::Left { machine });
+            let bye = self.contacts[place].bye;
+            self.events.push(PeerEvent::Left { machine, bye });
         }
     }
 
@@ -413,6 +552,25 @@ fn roll_back<G: Game>(session: &mut Session<G>) -> Result<(), Refusal>
         session.synchronize_input()?;
     }
     Ok(())
+}
+
+/// So many words, if the epoch's last one isn't among them.
+fn before_end(end: u32, words: Option<u32>) -> Option<u32>
+    ensures { result ≡ before_end end words }
+{
+    let words = words?;
+    if words < end { Some(words) } else { None }
+}
+
+/// What is waited for of these: the next word, or else that more are taken.
+fn or_taking(given: Option<u32>, taken: Option<u32>) -> Option<Wait>
+    ensures { result ≡ or_taking given taken }
+{
+    match (given, taken) {
+        (Some(given), _) => Some(Wait::Giving(given)),
+        (None, Some(taken)) => Some(Wait::Taking(taken)),
+        (None, None) => None,
+    }
 }
 
 /// Whether nothing but branches was accepted since the last roll that went to its end. So the state shown is up to date: a branch
