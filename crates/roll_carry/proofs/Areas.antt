@@ -84,7 +84,7 @@ parcels_take (suc n) (x ∷ bytes) parcels b e =
       (t.1, u.1),
     )
 
-behind : (p : ParcelValue) (ps : List ParcelValue)
+pub behind : (p : ParcelValue) (ps : List ParcelValue)
     → length (area_text (p ∷ ps)) ≡ LABEL + length p.tail + length (area_text ps)
 behind p ps = ap length (flat_map-cons parcel_text p ps)
     ∙ omega (arith, length-append p.tail (area_text ps))
@@ -105,7 +105,7 @@ limited (p ∷ ps) few f =
       limited ps (omega arith) f.1,
     )
 
-sized : (p : ParcelValue) → IsParcel p → IsSized p
+pub sized : (p : ParcelValue) → IsParcel p → IsSized p
 sized p f = record { to = f.to; steps = f.steps; least = f.least; most = omega (arith, f.most) }
 
 parcels_again : (n : ℕ) (parcels : List ParcelValue) → AllByRecursion IsParcel parcels

@@ -139,7 +139,7 @@ counted here maker to = record here {
 
 -- a parcel waits for a machine
 abbrev pub waiting_for : Carrying → (hop : ℕ) → ParcelValue → Carrying
-waiting_for here hop parcel = record here { lanes = waiting_with here.lanes hop parcel }
+waiting_for here hop parcel = record here { lanes = waiting_with here.map.machines here.lanes hop parcel }
 
 -- a parcel waits for its carrier, if there is one
 abbrev pub carried : Carrying → (maker : ℕ) → Option ℕ → ParcelValue → Carrying
@@ -183,7 +183,7 @@ abbrev pub joins : Carrying → (shut : List Bool) → (to : ℕ) → (tail : Li
 joins here shut to tail =
     not (is_in shut to)
     && (has_company here shut to
-    && (nat_lt to (length here.lanes) && has_place (lane_of here.lanes to) (own_parcel to 0 tail)))
+    && (nat_lt to (length here.lanes) && has_place here.map.machines (lane_of here.lanes to) (own_parcel to 0 tail)))
 
 abbrev pub after_joined : Carrying → (shut : List Bool) → (to : ℕ) → (tail : List ℕ) → Carrying
 after_joined here shut to tail =

@@ -1,12 +1,15 @@
 -- Reading maps and parcels from left to right, with the first fault that is met.
-use Rattle.std.specs.Prelude.{ℕ, zero, suc, ◌/◌, List, [], ◌∷◌, length, take, drop, min, Option, None, Some, Result, Ok, Err, nat_le, nat_lt, ◌&&◌, ◌||◌, ◌==◌, if◌then◌else◌}
+use Rattle.std.specs.Prelude.{◌≡◌, ℕ, zero, suc, ◌/◌, List, [], ◌∷◌, length, take, drop, min, Option, None, Some, Result, Ok, Err, nat_le, nat_lt, ◌&&◌, ◌||◌, ◌==◌, if◌then◌else◌}
 use Rattle.std.specs.Int.{w16, w32}
+use Rattle.std.specs.List.{AllByRecursion}
+use Rattle.std.specs.Option.{option_map_or}
+use Rattle.std.specs.Result.{result_ok}
 use Rattle.roll_mesh.specs.declared.limits.TheConstants.{MACHINE_LIMIT}
 use Rattle.roll_wire.specs.Reading.{◌>>=◌, byte_at, envelope_at, magic_at, mask_at, number_at, repeated}
 use Rattle.roll_wire.specs.declared.datagram.Envelope.{Envelope}
 use Rattle.roll_wire.specs.declared.fault.WireFault.{WireFault}
 use Rattle.roll_wire.specs.declared.fault.WireFault.TheVariants.{Short, Kind, Trailing}
-use Rattle.roll_carry.specs.Spelling.{ParcelValue, area_text}
+use Rattle.roll_carry.specs.Spelling.{IsParcel, ParcelValue, area_text}
 use Rattle.roll_carry.specs.declared.datagram.Hearing.{Hearing}
 use Rattle.roll_carry.specs.declared.limits.TheConstants.{AREA_LIMIT, CARRIED, MAP, TAIL_LEAST, TAIL_LIMIT}
 
@@ -61,6 +64,21 @@ parcels_within (suc most) (b ∷ bytes) = do
 -- parcels to the end: each has bytes, so there are no more of them than of these
 abbrev pub parcels_at : List ℕ → Result (List ParcelValue) WireFault
 parcels_at bytes = parcels_within (length bytes) bytes
+
+-- the parcels that bytes begin with, one behind the other, as many as can be read and no more than so many
+unfoldable pub front_within : (most : ℕ) → List ℕ → List ParcelValue
+front_within zero bytes = []
+front_within (suc most) bytes =
+    option_map_or (λ found. found.0 ∷ front_within most found.1) (result_ok (parcel_at bytes)) []
+
+-- all that can be read
+abbrev pub parcels_in : List ℕ → List ParcelValue
+parcels_in bytes = front_within (length bytes) bytes
+
+-- bytes that are parcels to the end
+pub record IsArea (area : List ℕ) : Type 0 where
+  pub text : area ≡ area_text (parcels_in area)
+  pub fits : AllByRecursion IsParcel (parcels_in area)
 
 -- the parcels that the whole of the bytes says: they have no more room than a datagram has
 unfoldable pub parcels_of : List ℕ → Result (List ParcelValue) WireFault

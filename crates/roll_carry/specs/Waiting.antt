@@ -1,8 +1,9 @@
 -- Parcels that wait to be sent, by the machine that gets them next: for each the datagrams that will have them, the oldest first, and of
 -- each the bytes of its parcels.
-use Rattle.std.specs.Prelude.{ℕ, ◌+◌, List, [], ◌∷◌, ◌++◌, length, drop, find, Bool, is_some, nat_le, nat_lt, ◌&&◌, ◌||◌, if◌then◌else◌, Option, None, Some, slice_index_or, slice_set}
+use Rattle.std.specs.Prelude.{ℕ, ◌+◌, ◌-◌, ◌*◌, ◌/◌, ◌==◌, sum_by, List, [], ◌∷◌, ◌++◌, length, drop, find, Bool, is_some, nat_le, nat_lt, ◌&&◌, ◌||◌, if◌then◌else◌, Option, None, Some, slice_index_or, slice_set}
 use Rattle.std.specs.List.{range_with_len}
-use Rattle.roll_carry.specs.Spelling.{parcel_text, ParcelValue}
+use Rattle.roll_carry.specs.Spelling.{maker_of, parcel_text, ParcelValue}
+use Rattle.roll_carry.specs.Reading.{parcels_in}
 use Rattle.roll_carry.specs.declared.limits.TheConstants.{AREA_LIMIT, LABEL, WAITING_LIMIT}
 
 -- those of one machine
@@ -30,9 +31,35 @@ has_room lane parcel place =
 abbrev pub place_for : Lane → ParcelValue → Option ℕ
 place_for lane parcel = find (has_room lane parcel) (range_with_len 0 WAITING_LIMIT)
 
--- whether a parcel may wait: a datagram has room for it, or there are fewer than so many
-abbrev pub has_place : Lane → ParcelValue → Bool
-has_place lane parcel = is_some (place_for lane parcel) || nat_lt (length lane) WAITING_LIMIT
+-- ---- what is one maker's
+
+-- how many bytes its parcels have, of some
+abbrev pub made_by : (maker : ℕ) → List ParcelValue → ℕ
+made_by maker parcels = sum_by (λ p. if maker_of p == maker then size_of p else 0) parcels
+
+-- and of those that wait
+abbrev pub waiting_of : Lane → (maker : ℕ) → ℕ
+waiting_of lane maker = sum_by (λ area. made_by maker (parcels_in area)) lane
+
+-- each machine of a match but the one that gets them has as large a share of all the bytes that may wait
+abbrev pub share_of : (machines : ℕ) → ℕ
+share_of machines = WAITING_LIMIT * AREA_LIMIT / (machines - 1)
+
+-- whether a parcel keeps within the share of its maker, or none of that one waits
+unfoldable pub is_fair : (machines : ℕ) → Lane → ParcelValue → Bool
+is_fair machines lane parcel =
+    (waiting_of lane (maker_of parcel) == 0)
+    || nat_le (waiting_of lane (maker_of parcel) + size_of parcel) (share_of machines)
+
+-- ---- what waits
+
+-- whether a datagram has room for a parcel, or there are fewer than so many
+abbrev pub fits_in : Lane → ParcelValue → Bool
+fits_in lane parcel = is_some (place_for lane parcel) || nat_lt (length lane) WAITING_LIMIT
+
+-- whether it may wait
+abbrev pub has_place : (machines : ℕ) → Lane → ParcelValue → Bool
+has_place machines lane parcel = is_fair machines lane parcel && fits_in lane parcel
 
 -- it goes into that datagram, or else into one of its own
 abbrev pub put_at : Lane → ParcelValue → Option ℕ → Lane
@@ -40,13 +67,13 @@ put_at lane parcel (Some place) = slice_set lane place (area_of lane place ++ pa
 put_at lane parcel None = lane ++ parcel_text parcel ∷ []
 
 -- or is dropped, if it may not wait
-abbrev pub pushed : Lane → ParcelValue → Lane
-pushed lane parcel =
-    if has_place lane parcel then put_at lane parcel (place_for lane parcel) else lane
+abbrev pub pushed : (machines : ℕ) → Lane → ParcelValue → Lane
+pushed machines lane parcel =
+    if has_place machines lane parcel then put_at lane parcel (place_for lane parcel) else lane
 
--- a parcel waits for a machine, if there are lanes
-abbrev pub waiting_with : List Lane → (hop : ℕ) → ParcelValue → List Lane
-waiting_with lanes hop parcel = slice_set lanes hop (pushed (lane_of lanes hop) parcel)
+-- a parcel waits for a machine of so many, if there are lanes
+abbrev pub waiting_with : (machines : ℕ) → List Lane → (hop : ℕ) → ParcelValue → List Lane
+waiting_with machines lanes hop parcel = slice_set lanes hop (pushed machines (lane_of lanes hop) parcel)
 
 -- the oldest datagram for a machine goes out
 abbrev pub without_first : List Lane → (hop : ℕ) → List Lane

@@ -1,6 +1,7 @@
 //! What is sent and handed on by others, and what goes out.
 ghost use Rattle.std.specs.Prelude.{◌≡◌, ◌<◌, ◌≤◌, ◌&&◌, length, nat_lt, true, is_some, Some, IfSome};
 ghost use Rattle.roll_carry.specs.Carrying.{after_carried, after_handed, after_joined, after_sent, after_taken, carried, first_waited_for, goes_at_once, has_broken_line, has_company, is_broken, is_direct, is_for_another, is_straight_due, is_waited_for, joins, waiting_for};
+ghost use Rattle.roll_carry.specs.Reading.{IsArea};
 ghost use Rattle.roll_carry.specs.Spelling.{maker_of, parcel_value};
 ghost use Rattle.roll_carry.specs.Waiting.{has_place, lane_of};
 ghost use Rattle.roll_carry.specs.declared.limits.TheConstants.{TAIL_LEAST, TAIL_LIMIT};
@@ -22,9 +23,9 @@ impl Carrier {
         requires most { length parcel.now.tail.now ≤ TAIL_LIMIT }
         ensures waits { self.new ≡ waiting_for self.old hop (parcel_value parcel.now) }
         ensures said { result ≡ (nat_lt hop (length self.old.lanes)
-            && has_place (lane_of self.old.lanes hop) (parcel_value parcel.now)) }
+            && has_place self.old.map.machines (lane_of self.old.lanes hop) (parcel_value parcel.now)) }
     {
-        hop < self.lanes.len() && self.lanes[hop].push(parcel)
+        hop < self.lanes.len() && self.lanes[hop].push(parcel, self.map.machines)
     }
 
     /// A parcel waits for its carrier, if there is one.
@@ -205,6 +206,7 @@ impl Carrier {
         ensures none { is_some result ≡ is_some (first_waited_for self.old ready.now) }
         ensures first { IfSome result (λ taken. (Some taken.0 ≡ first_waited_for self.old ready.now)
             × (slice_get (lane_of self.old.lanes taken.0) 0 ≡ Some taken.1.items)) }
+        ensures area { IfSome result (λ taken. IsArea taken.1.items) }
         ensures ready { IfSome result (λ taken. is_in ready.now taken.0 ≡ true) }
     {
         let hop = self.first_waited_for(ready)?;

@@ -1,4 +1,6 @@
 //! The limits of what is carried, each named once.
+ghost use Rattle.std.specs.Prelude.{◌≡◌};
+
 use roll_wire::DATAGRAM_LIMIT;
 
 /// How many bytes of a datagram stand before its own fields.
@@ -38,3 +40,25 @@ pub(crate) const STRAIGHT_EVERY: usize = 17;
 pub(crate) const STRAIGHT_AT: usize = 8;
 /// Where the maker of a datagram stands in it, behind its letters.
 pub(crate) const MAKER_AT: usize = 8;
+
+/// The numbers that clauses cite by name.
+pub fn limits_are()
+    ensures head { HEAD ≡ 14 }
+    ensures letters { LETTERS ≡ 4 }
+    ensures map { MAP ≡ 3 }
+    ensures carried { CARRIED ≡ 4 }
+    ensures area_limit { AREA_LIMIT ≡ 1186 }
+    ensures label { LABEL ≡ 4 }
+    ensures tail_least { TAIL_LEAST ≡ 10 }
+    ensures tail_limit { TAIL_LIMIT ≡ 1182 }
+    ensures maker_at { MAKER_AT ≡ 8 }
+    ensures step_limit { STEP_LIMIT ≡ 7 }
+    ensures between_limit { BETWEEN_LIMIT ≡ 7 }
+    ensures pass_over { PASS_OVER ≡ 16 }
+    ensures carry_after { CARRY_AFTER ≡ 150 }
+    ensures tell_turns { TELL_TURNS ≡ 16 }
+    ensures tell_every { TELL_EVERY ≡ 16 }
+    ensures waiting_limit { WAITING_LIMIT ≡ 4 }
+    ensures straight_every { STRAIGHT_EVERY ≡ 17 }
+    ensures straight_at { STRAIGHT_AT ≡ 8 }
+{}

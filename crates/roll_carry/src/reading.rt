@@ -1,19 +1,20 @@
 //! Bytes to maps and parcels.
-ghost use Rattle.std.specs.Prelude.{◌≡◌, ◌+◌, ◌≤◌, ◌++◌, List, length, Ok, IfOk, IfSome, option_map};
+ghost use Rattle.std.specs.Prelude.{◌≡◌, ◌+◌, ◌≤◌, ◌++◌, ◌∷◌, [], List, length, Ok, IfNone, IfOk, IfSome, option_map};
 ghost use Rattle.std.specs.Result.{result_err, result_ok};
 ghost use Rattle.std.specs.Int.{w16, w32, w64};
 ghost use Rattle.std.specs.List.{AllByRecursion};
 ghost use Rattle.roll_wire.specs.Reading.{Gives, bits, byte_at, envelope_at, magic_at, number_at, repeated};
 ghost use Rattle.roll_mesh.specs.declared.limits.TheConstants.{MACHINE_LIMIT};
 ghost use Rattle.roll_carry.specs.Spelling.{Carries, IsParcel, Maps, ParcelValue, Says, area_text, lone, parcel_text, parcel_value};
-ghost use Rattle.roll_carry.specs.Reading.{area_of, first_of, head_at, hearing_at, map_of, parcel_at, parcels_at, tail_at, tail_of};
+ghost use Rattle.roll_carry.specs.Reading.{IsArea, area_of, first_of, head_at, hearing_at, map_of, parcel_at, parcels_at, parcels_in, tail_at, tail_of};
+ghost use Rattle.roll_carry.specs.Waiting.{made_by};
 ghost use Rattle.roll_carry.specs.declared.datagram.Hearing.{Hearing};
 ghost use Rattle.roll_carry.specs.declared.limits.TheConstants.{AREA_LIMIT, LABEL, TAIL_LEAST, TAIL_LIMIT};
 ghost use Rattle.roll_wire.specs.Spelling.{number};
 ghost use Rattle.roll_wire.specs.declared.limits.TheConstants.{MAGIC};
 
 use crate::datagram::{Hearing, Parcel};
-use crate::limits::{AREA_LIMIT, CARRIED, MAP, TAIL_LEAST, TAIL_LIMIT};
+use crate::limits::{AREA_LIMIT, CARRIED, LABEL, MAP, TAIL_LEAST, TAIL_LIMIT};
 use arrayvec::ArrayVec;
 use roll_mesh::MACHINE_LIMIT;
 use roll_wire::{DATAGRAM_LIMIT, Envelope, MAGIC, WireFault};
@@ -230,6 +231,9 @@ pub fn read_parcels(text: &[u8]) -> Result<&[u8], WireFault>
     ensures found { IfOk result (λ area. (parcels : List ParcelValue)
         × (Says text.now (Carries parcels) × (area.now ≡ area_text parcels))) }
     ensures few { IfOk result (λ area. length area.now ≤ AREA_LIMIT) }
+    // They are those that `first_parcel` takes.
+    ensures area { IfOk result (λ area. IsArea area.now) }
+    ensures says { IfOk result (λ area. Says text.now (Carries (parcels_in area.now))) }
     // What is spelled so is read.
     ensures only { (parcels : List ParcelValue) → Says text.now (Carries parcels)
         → Gives (λ area. area.now) result (Ok (area_text parcels)) }
@@ -252,8 +256,28 @@ pub fn first_parcel(area: &[u8]) -> Option<(Parcel<'_>, &[u8])>
         → option_map (λ x. (parcel_value x.0, x.1.now)) result ≡ first_of parcels }
     ensures exact { option_map (λ x. (parcel_value x.0, x.1.now)) result
         ≡ result_ok (parcel_at area.now) }
+    ensures next { IfSome result (λ x. parcels_in area.now
+        ≡ parcel_value x.0 ∷ parcels_in x.1.now) }
+    ensures none { IfNone result (parcels_in area.now ≡ []) }
 {
     parcel_of(area).ok()
+}
+
+/// How many bytes the parcels of one maker have among those that were read.
+pub(crate) fn made_by(area: &[u8], maker: u8) -> usize
+    requires { length area.now ≤ AREA_LIMIT }
+    ensures value { result ≡ made_by maker (parcels_in area.now) }
+    ensures few { result ≤ length area.now }
+{
+    let Some((parcel, others)) = first_parcel(area) else {
+        return 0;
+    };
+    let more = made_by(others, maker);
+    if parcel.maker() == maker {
+        LABEL + parcel.tail.len() + more
+    } else {
+        more
+    }
 }
 
 /// The datagram of the only parcel of those that were read, if it goes straight.

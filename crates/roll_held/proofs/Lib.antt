@@ -7,3 +7,4 @@ pub mod Fronts
 pub mod Pressed
 pub mod Carried
 pub mod Waiting
+pub mod Passing

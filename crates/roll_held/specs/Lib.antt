@@ -1,6 +1,7 @@
 pub mod Told
 pub mod Turns
 pub mod Waits
+pub mod Passing
 pub mod Pressed
 pub mod Laws
 pub mod Heard

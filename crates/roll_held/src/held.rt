@@ -1,6 +1,7 @@
 //! Words that are held back, and for how many turns.
 ghost use Rattle.std.specs.Prelude.{◌≡◌, ◌⊎◌, ◌≤◌, [], drop, is_none, length, min, not, take, true, IfErr, IfOk, IfSome, IsFalse, IsTrue, OnErr, OnOk};
 ghost use Rattle.std.specs.Int.{is_in_range};
+ghost use Rattle.roll_held.specs.Passing.{Does, Hand, Turn};
 ghost use Rattle.roll_held.specs.Pressed.{is_pressed, RefusesNext, TakesNext};
 ghost use Rattle.roll_held.specs.Told.{are_next, roomless, told, IsHeldFault};
 ghost use Rattle.roll_held.specs.Turns.{after_turn, due, lessened};
@@ -78,6 +79,9 @@ impl Held {
         ensures waited { OnOk result (self.new.waited.items
             ≡ lessened (min count (length self.old.words.items)) self.old.waited.items) }
         ensures turns { self.new.turns ≡ self.old.turns }
+        ensures hands { OnOk result (Does (Hand count)
+            (record { seen = S.seen session.old; held = self.old })
+            (record { seen = S.seen session.new; held = self.new })) }
         ensures accepted { OnOk result (are_next (S.seen session.old) self.old.words.items ≡ true) }
         ensures refused { IfErr result (IsHeldFault (S.seen session.old) self.old.words.items) }
         ensures session { OnErr result (session.new ≡ session.old) }
@@ -106,6 +110,9 @@ impl Held {
         ensures due { IfOk result (λ count. count ≡ min (length self.old.words.items)
             (due self.old.turns (after_turn (length self.old.words.items) self.old.waited.items))) }
         ensures few { IfOk result (λ count. count ≤ HELD_LIMIT) }
+        ensures turned { OnOk result (Does Turn
+            (record { seen = S.seen session.old; held = self.old })
+            (record { seen = S.seen session.new; held = self.new })) }
         ensures handed { IfOk result (λ count. roomless (S.seen session.new)
             ≡ roomless (told (S.seen session.old) (take count self.old.words.items))) }
         ensures rest { IfOk result (λ count. self.new.words.items ≡ drop count self.old.words.items) }

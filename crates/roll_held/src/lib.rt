@@ -12,5 +12,5 @@ mod words;
 
 pub use fault::HeldFault;
 pub use held::{HELD_LIMIT, Held, TURN_LIMIT};
-pub use laws::{held_words_are_heard, holders_are_one_match, holders_go_on};
+pub use laws::{held_words_are_heard, holders_are_one_match, holders_go_on, no_word_waits_longer};
 pub use roll_session::{RemoteWord, Settling};

@@ -113,17 +113,12 @@ abbrev pub HearsInside : Step → (now : ℕ) → (is_of_lines : Bool) → (old 
 HearsInside step now true old new bytes = new ≡ old
 HearsInside step now false old new bytes = (said : Result Received Ignored) × HearsBytes step old new now bytes said
 
--- what a machine gave for this one was heard: it came from its maker, if that is who gave it
-abbrev pub hearing_of : (sender : ℕ) → (before after : Peered) → ParcelValue → Carrying → Carrying
-hearing_of sender before after parcel here =
-    if maker_of parcel == sender then hearing before after sender here else here
-
--- of what a machine gave, this one's own parcel is heard here, and any other handed on
+-- of what a machine gave, this one's own parcel is heard here, and any other handed on: a play of that machine has come straight
 abbrev pub HearsParcel : Step → (now sender : ℕ) → (old new : Relayed) → ParcelValue → Type 0
 HearsParcel step now sender old new parcel =
     ((parcel.to ≡ old.beside.peer.settings.me)
     × HearsInside step now (is_of_lines (kind_of (datagram_of parcel))) old.beside new.beside (datagram_of parcel)
-    × (new.carrying ≡ hearing_of sender old.beside.peer new.beside.peer parcel old.carrying))
+    × (new.carrying ≡ hearing old.beside.peer new.beside.peer sender old.carrying))
     ⊎ ((parcel.to ≡ old.beside.peer.settings.me → ⊥) × (new.beside ≡ old.beside)
     × (new.carrying ≡ handing old.beside.peer parcel old.carrying))
 
@@ -202,10 +197,10 @@ Sends s now to before after old new sent =
     ⊎ ((is_lost before to ≡ false) × IsMade s now to before after old new sent))
 
 -- a bye goes out at once, and is carried too if the line isn't whole
-abbrev pub SaysBye : Peered → (to : ℕ) → (old new : Carrying) → Option (List ℕ) → Type 0
-SaysBye peer to old new None = new ≡ old
-SaysBye peer to old new (Some bytes) =
-    (bytes ≡ text_for peer to LeavesMatch) × (new ≡ leaving peer to (tail_of bytes) old)
+abbrev pub SaysBye : Peered → (to why : ℕ) → (old new : Carrying) → Option (List ℕ) → Type 0
+SaysBye peer to why old new None = new ≡ old
+SaysBye peer to why old new (Some bytes) =
+    (bytes ≡ text_for peer to (LeavesMatch why)) × (new ≡ leaving peer to (tail_of bytes) old)
 
 -- the map goes to a machine
 abbrev pub TellsMap : Peered → (old new : Carrying) → (to : ℕ) → Option (ℕ × List ℕ) → Type 0
@@ -217,10 +212,9 @@ TellsMap peer old new to said =
 abbrev pub GivesParcels : Peered → (old new : Carrying) → (to : ℕ) → Option (ℕ × List ℕ) → Type 0
 GivesParcels peer old new to said =
     (new ≡ after_taken old (Some to))
-    × ((area bytes : List ℕ) × (slice_get (lane_of old.lanes to) 0 ≡ Some area)
-    × (said ≡ Some (to, bytes))
-    × ((parcels : List ParcelValue) → AllByRecursion IsParcel parcels → area ≡ area_text parcels
-    → bytes ≡ given_by (with_draws peer to) peer.settings.me parcels))
+    × ((parcels : List ParcelValue) × AllByRecursion IsParcel parcels
+    × (slice_get (lane_of old.lanes to) 0 ≡ Some (area_text parcels))
+    × (said ≡ Some (to, given_by (with_draws peer to) peer.settings.me parcels)))
 
 -- the map goes to a machine, if there is one
 abbrev pub IsNextMap : Peered → (old new : Carrying) → (owed : Option ℕ) → Option (ℕ × List ℕ) → Type 0

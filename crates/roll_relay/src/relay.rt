@@ -1,9 +1,9 @@
 //! What goes between machines whose line may be broken.
 ghost use Rattle.std.specs.Prelude.{◌≡◌, ℕ, ◌≤◌, nat_lt, List, length, true, Err, Ok, IfErr, IfOk, OnErr, if◌then◌else◌};
-ghost use Rattle.std.specs.List.{AllByRecursion};
 ghost use Rattle.roll_carry.specs.Carrying.{opened_carrying, turned};
 ghost use Rattle.roll_carry.specs.Mapping.{after_map, heard_straight};
-ghost use Rattle.roll_carry.specs.Spelling.{area_text, datagram_of, IsParcel, ParcelValue, parcel_value};
+ghost use Rattle.roll_carry.specs.Reading.{parcels_in as parcels_of};
+ghost use Rattle.roll_carry.specs.Spelling.{datagram_of, IsParcel, ParcelValue, parcel_value};
 ghost use Rattle.roll_carry.specs.declared.datagram.Hearing.{Hearing};
 ghost use Rattle.roll_carry.specs.declared.limits.TheConstants.{AREA_LIMIT, TAIL_LEAST};
 ghost use Rattle.roll_mesh.specs.Machines.{is_in};
@@ -11,7 +11,7 @@ ghost use Rattle.roll_peer.specs.Peered.{contact_at};
 ghost use Rattle.roll_peer.specs.Sending.{can_carry};
 ghost use Rattle.roll_peer.specs.Receiving.{byte_at, moment_of, sender_of};
 ghost use Rattle.roll_peer.specs.Requests.{HearsBytes};
-ghost use Rattle.roll_relay.specs.Relaying.{are_here, handing, hearing, hearing_of, is_of_lines, is_said, kind_of, map_in, parcels_in, ready_of, shut_of, text_in, Hears, HearsInside, HearsParcel, HearsParcels, HoldsParcels, IsUnheard};
+ghost use Rattle.roll_relay.specs.Relaying.{are_here, handing, hearing, is_of_lines, is_said, kind_of, map_in, parcels_in, ready_of, shut_of, text_in, Hears, HearsInside, HearsParcel, HearsParcels, HoldsParcels, IsUnheard};
 
 use crate::heard::Heard;
 use arrayvec::ArrayVec;
@@ -90,8 +90,14 @@ impl Relay {
         now: u32,
     ) -> Result<Heard, Ignored>
         ensures heard { IfOk result (Hears S.step now
-            (record { beside = record { session = S.seen session.old; peer = peer.old }; carrying = self.old })
-            (record { beside = record { session = S.seen session.new; peer = peer.new }; carrying = self.new })
+            (record {
+              beside = record { session = S.seen session.old; peer = peer.old };
+              carrying = self.old;
+            })
+            (record {
+              beside = record { session = S.seen session.new; peer = peer.new };
+              carrying = self.new;
+            })
             bytes.now) }
         ensures said { IfOk result (λ heard. is_said (kind_of bytes.now) heard ≡ true) }
         ensures ignored { IfErr result (IsUnheard S.step now
@@ -115,7 +121,8 @@ impl Relay {
         bytes: &[u8],
         now: u32,
     ) -> Result<Heard, Ignored>
-        ensures heard { IfOk result (λ heard. (received : Received) × (heard ≡ Heard.Straight received)
+        ensures heard { IfOk result (λ heard. (received : Received)
+            × (heard ≡ Heard.Straight received)
             × HearsBytes S.step (record { session = S.seen session.old; peer = peer.old })
             (record { session = S.seen session.new; peer = peer.new }) now bytes.now (Ok received)
             × (self.new ≡ hearing peer.old peer.new (sender_of bytes.now) self.old)) }
@@ -140,7 +147,8 @@ impl Relay {
     /// be old, and kept by somebody.
     fn note_straight(&mut self, peer: &Peer, machine: u8, before: u32)
         ensures { self.new ≡ (if nat_lt before (contact_at peer.now machine).after
-            then record self.old { map = heard_straight machine (moment_of peer.now) self.old.map } else self.old) }
+            then record self.old { map = heard_straight machine (moment_of peer.now) self.old.map }
+            else self.old) }
     {
         if before < peer.after(machine) {
             self.carrier.heard_straight(machine, peer.moment());
@@ -172,8 +180,15 @@ impl Relay {
         ensures heard { IfOk result (λ heard. (heard ≡ Heard.Carried (sender_of bytes.now))
             × ((parcels : List ParcelValue) × HoldsParcels peer.old bytes.now parcels
             × HearsParcels S.step now (sender_of bytes.now)
-            (record { beside = record { session = S.seen session.old; peer = peer.old }; carrying = self.old }) parcels
-            (record { beside = record { session = S.seen session.new; peer = peer.new }; carrying = self.new }))) }
+            (record {
+              beside = record { session = S.seen session.old; peer = peer.old };
+              carrying = self.old;
+            })
+            parcels
+            (record {
+              beside = record { session = S.seen session.new; peer = peer.new };
+              carrying = self.new;
+            }))) }
         ensures ignored { IfErr result (λ why. parcels_in peer.old bytes.now ≡ Err why) }
         ensures unchanged { OnErr result (self.new ≡ self.old) }
         ensures peer { OnErr result (peer.new ≡ peer.old) }
@@ -201,10 +216,16 @@ impl Relay {
         now: u32,
     )
         requires { length area.now ≤ AREA_LIMIT }
-        ensures heard { (parcels : List ParcelValue) → AllByRecursion IsParcel parcels → area.now ≡ area_text parcels
-            → HearsParcels S.step now sender
-            (record { beside = record { session = S.seen session.old; peer = peer.old }; carrying = self.old }) parcels
-            (record { beside = record { session = S.seen session.new; peer = peer.new }; carrying = self.new }) }
+        ensures heard { HearsParcels S.step now sender
+            (record {
+              beside = record { session = S.seen session.old; peer = peer.old };
+              carrying = self.old;
+            })
+            (parcels_of area.now)
+            (record {
+              beside = record { session = S.seen session.new; peer = peer.new };
+              carrying = self.new;
+            }) }
         ensures keeps { S.keeps session.old session.new }
     {
         if let Some((parcel, others)) = first_parcel(area) {
@@ -224,8 +245,14 @@ impl Relay {
     )
         requires { IsParcel (parcel_value parcel.now) }
         ensures heard { HearsParcel S.step now sender
-            (record { beside = record { session = S.seen session.old; peer = peer.old }; carrying = self.old })
-            (record { beside = record { session = S.seen session.new; peer = peer.new }; carrying = self.new })
+            (record {
+              beside = record { session = S.seen session.old; peer = peer.old };
+              carrying = self.old;
+            })
+            (record {
+              beside = record { session = S.seen session.new; peer = peer.new };
+              carrying = self.new;
+            })
             (parcel_value parcel.now) }
         ensures keeps { S.keeps session.old session.new }
     {
@@ -236,7 +263,7 @@ impl Relay {
         }
     }
 
-    /// What a machine gave for this one is heard. It has come straight if that machine made it.
+    /// What a machine gave for this one is heard. Only the giver's own plays raise its number: if it rises, one has come straight.
     fn hear_own<S: Networked>(
         &mut self,
         peer: &mut Peer,
@@ -246,17 +273,17 @@ impl Relay {
         now: u32,
     )
         requires { IsParcel (parcel_value parcel.now) }
-        ensures heard { HearsInside S.step now (is_of_lines (kind_of (datagram_of (parcel_value parcel.now))))
+        ensures heard { HearsInside S.step now
+            (is_of_lines (kind_of (datagram_of (parcel_value parcel.now))))
             (record { session = S.seen session.old; peer = peer.old })
-            (record { session = S.seen session.new; peer = peer.new }) (datagram_of (parcel_value parcel.now)) }
-        ensures straight { self.new ≡ hearing_of sender peer.old peer.new (parcel_value parcel.now) self.old }
+            (record { session = S.seen session.new; peer = peer.new })
+            (datagram_of (parcel_value parcel.now)) }
+        ensures straight { self.new ≡ hearing peer.old peer.new sender self.old }
         ensures keeps { S.keeps session.old session.new }
     {
         let before = peer.after(sender);
         hear_inside(peer, session, &parcel.datagram(), now);
-        if parcel.maker() == sender {
-            self.note_straight(peer, sender, before);
-        }
+        self.note_straight(peer, sender, before);
     }
 
     /// A parcel for another machine is handed on, unless either end is gone.

@@ -1,10 +1,9 @@
 //! What goes by a line that may be broken.
-ghost use Rattle.std.specs.Prelude.{◌≡◌, ◌≤◌, List, length, true, is_none, is_some, option_map, not, ◌||◌, IfErr, IfOk, IfSome, OnErr};
-ghost use Rattle.std.specs.List.{AllByRecursion};
+ghost use Rattle.std.specs.Prelude.{◌≡◌, ◌≤◌, length, true, is_none, is_some, option_map, not, ◌||◌, IfErr, IfOk, IfSome, OnErr};
 ghost use Rattle.roll_contact.specs.Contacts.{is_playing};
 ghost use Rattle.roll_carry.specs.Carrying.{first_owed, first_waited_for};
-ghost use Rattle.roll_carry.specs.Reading.{tail_of};
-ghost use Rattle.roll_carry.specs.Spelling.{area_text, given_by, said_by, IsParcel, Maps, ParcelValue};
+ghost use Rattle.roll_carry.specs.Reading.{parcels_in, tail_of, IsArea};
+ghost use Rattle.roll_carry.specs.Spelling.{given_by, said_by, Maps};
 ghost use Rattle.roll_carry.specs.declared.limits.TheConstants.{AREA_LIMIT};
 ghost use Rattle.roll_mesh.specs.declared.limits.TheConstants.{MACHINE_LIMIT};
 ghost use Rattle.roll_peer.specs.Peered.{contact_at};
@@ -36,8 +35,8 @@ impl Relay {
         machine: u8,
         now: u32,
     ) -> Result<Option<ArrayVec<u8, DATAGRAM_LIMIT>>, OtherSession>
-        ensures sent { IfOk result (λ sent. Sends (S.seen session.now) now machine peer.old peer.new self.old self.new
-            (option_map (λ bytes. bytes.items) sent)) }
+        ensures sent { IfOk result (λ sent. Sends (S.seen session.now) now machine peer.old peer.new
+            self.old self.new (option_map (λ bytes. bytes.items) sent)) }
         ensures other { OnErr result (IsOther (S.seen session.now) peer.old) }
         ensures peer { OnErr result (peer.new ≡ ticking now peer.old) }
         ensures unchanged { OnErr result (self.new ≡ self.old) }
@@ -57,7 +56,8 @@ impl Relay {
         bytes: ArrayVec<u8, DATAGRAM_LIMIT>,
     ) -> Option<ArrayVec<u8, DATAGRAM_LIMIT>>
         ensures sent { self.new ≡ sending peer.now machine (tail_of bytes.items) self.old }
-        ensures at_once { option_map (λ sent. sent.items) result ≡ at_once peer.now machine bytes.items self.old }
+        ensures at_once { option_map (λ sent. sent.items) result
+            ≡ at_once peer.now machine bytes.items self.old }
     {
         if self.hand_over(peer, machine, &bytes) {
             Some(bytes)
@@ -86,14 +86,15 @@ impl Relay {
         }
     }
 
-    /// The bytes that say to a machine that this one leaves the match, as the peer makes them: they go straight. If the line between the
-    /// two doesn't work both ways, they wait for a carrier too.
-    pub fn bye(&mut self, peer: &Peer, machine: u8) -> Option<ArrayVec<u8, DATAGRAM_LIMIT>>
-        ensures said { SaysBye peer.now machine self.old self.new (option_map (λ bytes. bytes.items) result) }
+    /// The bytes that say to a machine that this one leaves the match, and why, as the peer makes them: they go straight. If the line
+    /// between the two doesn't work both ways, they wait for a carrier too.
+    pub fn bye(&mut self, peer: &Peer, machine: u8, why: u8) -> Option<ArrayVec<u8, DATAGRAM_LIMIT>>
+        ensures said { SaysBye peer.now machine why self.old self.new
+            (option_map (λ bytes. bytes.items) result) }
         ensures none { is_none result
             ≡ (is_lost peer.now machine || not (is_playing (contact_at peer.now machine).stage)) }
     {
-        match peer.bye(machine) {
+        match peer.bye(machine, why) {
             Some(bytes) => {
                 self.carry(peer, machine, &bytes);
                 Some(bytes)
@@ -105,8 +106,8 @@ impl Relay {
     /// What this machine tells another of who hears whom.
     fn map_for(&self, peer: &Peer, machine: u8) -> ArrayVec<u8, DATAGRAM_LIMIT>
         requires { can_carry peer.now machine ≡ true }
-        ensures { result.items
-            ≡ said_by (with_draws peer.now machine) peer.now.settings.me (Maps (told_map self.now)) }
+        ensures { result.items ≡ said_by (with_draws peer.now machine) peer.now.settings.me
+            (Maps (told_map self.now)) }
     {
         let map = self.carrier.map();
         say_map(
@@ -129,8 +130,8 @@ impl Relay {
 
     /// The map for the first machine to which it is still to go in this turn.
     fn next_map(&mut self, peer: &Peer) -> Option<(u8, ArrayVec<u8, DATAGRAM_LIMIT>)>
-        ensures told { IsNextMap peer.now self.old self.new (first_owed self.old (ready_of peer.now))
-            (option_map (λ x. (x.0, x.1.items)) result) }
+        ensures told { IsNextMap peer.now self.old self.new
+            (first_owed self.old (ready_of peer.now)) (option_map (λ x. (x.0, x.1.items)) result) }
         ensures some { is_some result ≡ is_some (first_owed self.old (ready_of peer.now)) }
     {
         let machine = self.carrier.next_to_tell(&ready_of(peer))?;
@@ -139,7 +140,8 @@ impl Relay {
 
     /// The parcels that wait for the first machine for which some wait.
     fn next_parcels(&mut self, peer: &Peer) -> Option<(u8, ArrayVec<u8, DATAGRAM_LIMIT>)>
-        ensures { IsNextParcels peer.now self.old self.new (first_waited_for self.old (ready_of peer.now))
+        ensures { IsNextParcels peer.now self.old self.new
+            (first_waited_for self.old (ready_of peer.now))
             (option_map (λ x. (x.0, x.1.items)) result) }
     {
         let (machine, area) = self.carrier.take(&ready_of(peer))?;
@@ -151,9 +153,9 @@ impl Relay {
 fn given_to(peer: &Peer, machine: u8, area: &[u8]) -> ArrayVec<u8, DATAGRAM_LIMIT>
     requires carries { can_carry peer.now machine ≡ true }
     requires few { length area.now ≤ AREA_LIMIT }
-    ensures { (parcels : List ParcelValue) → AllByRecursion IsParcel parcels
-        → area.now ≡ area_text parcels
-        → result.items ≡ given_by (with_draws peer.now machine) peer.now.settings.me parcels }
+    requires parcels { IsArea area.now }
+    ensures { result.items
+        ≡ given_by (with_draws peer.now machine) peer.now.settings.me (parcels_in area.now) }
 {
     match lone_datagram(area) {
         Some(bytes) => bytes,
