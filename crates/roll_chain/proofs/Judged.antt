@@ -4,7 +4,7 @@ use Rattle.roll_mesh.specs.Machines.{is_in}
 use Rattle.roll_mesh.specs.declared.limits.TheConstants.{PLAYER_LIMIT}
 use Rattle.roll_epoch.specs.Ends.{is_void, owner_of}
 use Rattle.roll_frame.specs.Settings.{most_threshold}
-use Rattle.std.specs.Prelude.{◌||◌, nat_lt}
+use Rattle.std.specs.Prelude.{◌||◌, nat_lt, not}
 use Rattle.roll_peer.specs.Marks.{mark_at}
 use Rattle.roll_peer.specs.Peered.{Peered}
 use Rattle.roll_wire.specs.declared.datagram.Marked.{Marked}
@@ -20,5 +20,5 @@ pub judged_alike : (one other : Chain) (a b : Peered) (p : ℕ) (m : Marked) →
 judged_alike one other a b p m l at_a at_b terms profile comers judged_a judged_b =
     judged_a p l ∙ ap (is_void_by one p) at_a
     ∙ (λ k. nat_lt (most_threshold (profile k)) m.mark.threshold
-    || is_void m.mark (owner_of (terms k).owners p) (terms k) (is_vouched (comers k) m.mark.newcomer))
+    || (is_void m.mark (owner_of (terms k).owners p) (terms k) || not (is_vouched (comers k) m.mark.newcomer)))
     ∙ sym (judged_b p l ∙ ap (is_void_by other p) at_b)

@@ -87,10 +87,10 @@ in_rows_so end left m l t =
     ap (λ (b : Bool). if b then Some m else None)
     (and_from (nat_lt m.frame end) (is_there left m.frame) (lt-ltb m.frame end l) t)
 
-unless_void_is : (terms : Terms) (giver : ℕ) (welcome : Bool) (marked : Option Marked) (m : Marked)
-    → unless_void terms giver welcome marked ≡ Some m → marked ≡ Some m
-unless_void_is terms giver welcome None m e = absurd (none_some m e)
-unless_void_is terms giver welcome (Some x) m e = go (is_void x.mark giver terms welcome) e
+unless_void_is : (terms : Terms) (giver : ℕ) (marked : Option Marked) (m : Marked)
+    → unless_void terms giver marked ≡ Some m → marked ≡ Some m
+unless_void_is terms giver None m e = absurd (none_some m e)
+unless_void_is terms giver (Some x) m e = go (is_void x.mark giver terms) e
   where
     go : (b : Bool) → (if b then None else Some x) ≡ Some m → Some x ≡ Some m
     go true e = absurd (none_some m e)
@@ -103,7 +103,7 @@ end_low told settled e end =
       arith,
       end.frame,
       (in_rows_is settled (slice_index_or told.left e.player None) (slice_index_or told.first e.player None) end.marked
-          (unless_void_is told.terms (owned_by told.terms.owners e.player) (slice_index_or told.welcome e.player false)
+          (unless_void_is told.terms (owned_by told.terms.owners e.player)
           (mark_in told settled e.player) end.marked end.counts)).below,
     )
 
@@ -355,7 +355,6 @@ module _ (match : Match) (games : ℕ → Step) (peers : PeerWorld) (played : Is
     are_alike : AreAlike (told_by one a.peer) (told_by other b.peer) end
     are_alike = record {
       terms = terms;
-      welcome = refl;
       rows = λ p l. told_at one a.peer p l ∙ rows_alike p l ∙ sym (told_at other b.peer p l);
     }
 

@@ -93,7 +93,7 @@ impl Chain {
 }
 
 /// Whether there is no such other machine, it is gone, or it has come to this epoch.
-pub fn is_seen(peer: &Peer, machine: u8) -> bool
+fn is_seen(peer: &Peer, machine: u8) -> bool
     ensures { result ≡ is_seen peer.now machine }
 {
     peer.is_lost(machine) || has_given(peer.mesh(), machine)

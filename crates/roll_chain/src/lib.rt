@@ -10,7 +10,7 @@ mod seam;
 mod seating;
 mod sharing;
 
-pub use chain::{Chain, is_seen};
+pub use chain::Chain;
 pub use comers::ticket_for;
 pub use laws::{of_one_number_one_next, they_go_on_together};
 pub use seam::Opening;

@@ -1,7 +1,7 @@
 -- What a match that goes on in epochs has beside its network, and what its calls make of it.
-use Rattle.std.specs.Prelude.{◌≡◌, ◌⊎◌, ℕ, List, Bool, true, false, Option, Some, None, Result, Ok, Err, IsSomeAnd, MatchOption, option_map, if◌then◌else◌}
+use Rattle.std.specs.Prelude.{◌≡◌, ℕ, List, Bool, Option, Some, None, Result, Ok, Err, IsSomeAnd, MatchOption, option_map, if◌then◌else◌}
 use Rattle.roll_carry.specs.Carrying.{Carrying}
-use Rattle.roll_chain.specs.Chains.{is_past_over, is_seen}
+use Rattle.roll_chain.specs.Chains.{is_past_over}
 use Rattle.roll_chain.specs.Judging.{judged_until, IsOver}
 use Rattle.roll_chain.specs.Seams.{opening_after}
 use Rattle.roll_chain.specs.Sharing.{gone_in_either, heard_until, parted_until}
@@ -64,14 +64,13 @@ HearsBefore seen step bytes now old new said =
     ((new.past ≡ None) × (said ≡ Err NotSealed))
     (λ past. IsSomeAnd new.past (λ later. Hears seen step bytes now past later said))
 
--- it sends to a machine that wasn't seen in this one
-abbrev pub SendsBefore : {S : Type 0} → (seen : S → Seen) → Peered → (machine now : ℕ) → (old new : Epochs S) → Result (Option (List ℕ)) OtherSession → Type 0
-SendsBefore seen peer machine now old new said =
+-- it sends to each machine
+abbrev pub SendsBefore : {S : Type 0} → (seen : S → Seen) → (machine now : ℕ) → (old new : Epochs S) → Result (Option (List ℕ)) OtherSession → Type 0
+SendsBefore seen machine now old new said =
     (new.chain ≡ old.chain)
-    × (((is_seen peer machine ≡ true) × ((new.past ≡ old.past) × (said ≡ Ok None)))
-    ⊎ ((is_seen peer machine ≡ false) × MatchOption old.past
+    × MatchOption old.past
     ((new.past ≡ None) × (said ≡ Ok None))
-    (λ past. IsSomeAnd new.past (λ later. Sends seen machine now past later said))))
+    (λ past. IsSomeAnd new.past (λ later. Sends seen machine now past later said))
 
 -- what goes out in it beside that
 abbrev pub IsNextBefore : {S : Type 0} → (old new : Epochs S) → Option (ℕ × List ℕ) → Type 0

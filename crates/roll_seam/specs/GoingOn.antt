@@ -1,5 +1,5 @@
 -- A session, and the network beside it, go on in the next epoch.
-use Rattle.std.specs.Prelude.{◌≡◌, ◌⊎◌, ℕ, List, [], Option}
+use Rattle.std.specs.Prelude.{◌≡◌, ◌<◌, ◌⊎◌, ℕ, List, [], Option}
 use Rattle.roll_carry.specs.Carrying.{Carrying}
 use Rattle.roll_chain.specs.Chains.{settings_in}
 use Rattle.roll_chain.specs.Seams.{followed_by}
@@ -18,10 +18,11 @@ use Rattle.roll_requests.specs.Ended.{end_refusal, Ended, IsEnded}
 use Rattle.roll_requests.specs.declared.request.Request.{Request}
 use Rattle.roll_session.specs.Changes.{IsWhy}
 use Rattle.roll_session.specs.Started.{first_seen}
+use Rattle.slab.specs.Slab.{slab_len}
 use Rattle.roll_seam.specs.Carrying.{IsCarryingFor}
 use Rattle.roll_seam.specs.declared.past.Past.{Past}
 use Rattle.roll_seam.specs.declared.refusal.SeamRefusal.{SeamRefusal}
-use Rattle.roll_seam.specs.declared.refusal.SeamRefusal.TheVariants.{Network, Session}
+use Rattle.roll_seam.specs.declared.refusal.SeamRefusal.TheVariants.{JobsOut, Network, Session}
 
 -- a session with these settings that has just started, and may use so many slots
 pub record IsStartedAs (settings : Settings) (limit : ℕ) (e : Asked) : Type 0 where
@@ -33,9 +34,10 @@ pub record IsStartedAs (settings : Settings) (limit : ℕ) (e : Asked) : Type 0 
   pub leads : Leads [] e
 
 -- how the next epoch opens: its session starts, its network follows this one's, and opened so also what carries beside it; this one's
--- network, what it carried and its session, which has ended by these last requests, are the epoch before
+-- network, what it carried and its session, which had no job out and has ended by these last requests, are the epoch before
 pub record GoesOn (o : Opening) (old new : Chain) (peer next : Peered) (relay carrying : Option Carrying) (session started : Asked)
     (past : Past Ended) (closing : List Request) : Type 0 where
+  pub none_out : slab_len session.jobs ≡ 0
   pub starts : IsStartedAs o.settings session.limit started
   pub follows : IsFollowedAs started.seen (settings_in old o.terms) peer o.seating next
   pub chain : new ≡ followed_by old o
@@ -53,11 +55,19 @@ IsWhyNotStarted o session why =
 
 -- memory ran out
 abbrev pub IsShort : SeamRefusal → Type 0
+IsShort JobsOut = ⊥
 IsShort (Session why) = why ≡ NoMemory
 IsShort (Network why) = why ≡ NoneLeft
 
 -- of these, or the network doesn't open beside a session that starts so
-abbrev pub IsWhyNotGone : Opening → Chain → Asked → SeamRefusal → Type 0
-IsWhyNotGone o chain session (Session why) = IsWhyNotStarted o session why ⊎ (why ≡ NoMemory)
-IsWhyNotGone o chain session (Network why) =
+abbrev pub IsWhyNotOpened : Opening → Chain → Asked → SeamRefusal → Type 0
+IsWhyNotOpened o chain session JobsOut = ⊥
+IsWhyNotOpened o chain session (Session why) = IsWhyNotStarted o session why ⊎ (why ≡ NoMemory)
+IsWhyNotOpened o chain session (Network why) =
     (why ≡ NoneLeft) ⊎ IsWhyNot (first_seen o.settings [] no_calls) (settings_in chain o.terms) why
+
+-- jobs are out, and then nothing else is said
+abbrev pub IsWhyNotGone : Opening → Chain → Asked → SeamRefusal → Type 0
+IsWhyNotGone o chain session why =
+    ((why ≡ JobsOut) × (0 < slab_len session.jobs))
+    ⊎ ((slab_len session.jobs ≡ 0) × IsWhyNotOpened o chain session why)

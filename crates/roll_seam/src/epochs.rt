@@ -10,7 +10,7 @@ use crate::going_on::go_on;
 use crate::past::Past;
 use crate::refusal::SeamRefusal;
 use arrayvec::ArrayVec;
-use roll_chain::{Chain, is_seen};
+use roll_chain::Chain;
 use roll_peer::{Ignored, OtherSession, Peer};
 use roll_relay::Relay;
 use roll_requests::{Closing, Elsewhere, Ended};
@@ -82,22 +82,19 @@ impl<S: Networked + Drop> Epochs<S> {
         }
     }
 
-    /// What is to be sent to a machine that may still be in the epoch before.
+    /// What is to be sent to a machine in the epoch before: also to one that has come, which may have to hand on what somebody lacks
+    /// who hasn't.
     ///
     /// # Errors
     ///
     /// As of the network's call.
     pub fn send(
         &mut self,
-        peer: &Peer,
         machine: u8,
         now: u32,
     ) -> Result<Option<ArrayVec<u8, DATAGRAM_LIMIT>>, OtherSession>
-        ensures { SendsBefore S.seen peer.now machine now self.old self.new (bytes_of (λ bytes. bytes.items) result) }
+        ensures { SendsBefore S.seen machine now self.old self.new (bytes_of (λ bytes. bytes.items) result) }
     {
-        if is_seen(peer, machine) {
-            return Ok(None);
-        }
         match &mut self.past {
             Some(past) => past.send(machine, now),
             None => Ok(None),

@@ -36,6 +36,9 @@ pub(crate) fn go_on(
     ensures session { OnErr result (session.new ≡ session.old) }
     ensures refused { IfErr result (IsWhyNotGone opening.now chain.old session.old) }
 {
+    if session.jobs_out() != 0 {
+        return Err(SeamRefusal::JobsOut);
+    }
     let next = match start_next(alloc, session, opening) {
         Ok(next) => next,
         Err(why) => return Err(SeamRefusal::Session(why)),
