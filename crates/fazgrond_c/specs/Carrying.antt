@@ -79,10 +79,10 @@ pub record IsNextOf (old new : Network) (said : Option (ℕ × List ℕ)) : Type
       (λ here. IsSomeAnd new.relay (λ there. IsNext old.peer here there said))
 
 -- what says to a machine that this one leaves goes straight, and is carried too if the line is broken
-pub record SaysByeBy (machine : ℕ) (old new : Network) (bytes : Option (List ℕ)) : Type 0 where
+pub record SaysByeBy (machine why : ℕ) (old new : Network) (bytes : Option (List ℕ)) : Type 0 where
   pub peer : new.peer ≡ old.peer
   pub held : new.held ≡ old.held
   pub epochs : new.epochs ≡ old.epochs
   pub said : MatchOption old.relay
-      ((new.relay ≡ None) × IfSome bytes (λ text. text ≡ text_for old.peer machine Leaves))
-      (λ here. IsSomeAnd new.relay (λ there. SaysBye old.peer machine here there bytes))
+      ((new.relay ≡ None) × IfSome bytes (λ text. text ≡ text_for old.peer machine (Leaves why)))
+      (λ here. IsSomeAnd new.relay (λ there. SaysBye old.peer machine why here there bytes))

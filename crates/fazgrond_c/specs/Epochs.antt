@@ -1,9 +1,12 @@
 -- What a call of a peer whose match goes on in epochs comes to.
-use Rattle.std.specs.Prelude.{◌≡◌, ◌≢◌, ◌⊎◌, ℕ, ◌+◌, ◌-◌, ℤ, pos, List, [], Option, Some, None, option_map, IfSome, IfNone, IsSomeAnd, MatchOption, Result, Ok, Err, if◌then◌else◌}
+use Rattle.std.specs.Prelude.{◌≡◌, ◌≢◌, ◌⊎◌, ◌==◌, ◌&&◌, ℕ, ◌+◌, ◌-◌, ℤ, pos, Bool, List, [], Option, Some, None, option_map, IfSome, IfNone, IsSomeAnd, MatchOption, Result, Ok, Err, if◌then◌else◌}
 use Rattle.roll_chain.specs.Chains.{has_stayed}
-use Rattle.roll_chain.specs.Judging.{IsOver}
+use Rattle.roll_chain.specs.Judging.{mark_fault, IsOver}
+use Rattle.roll_epoch.specs.declared.faults.MarkFault.{MarkFault}
 use Rattle.roll_epoch.specs.declared.marks.Ending.{Ending}
-use Rattle.roll_peer.specs.Marking.{IsMarkedAs, IsWhyUnmarked}
+use Rattle.roll_mesh.specs.Machines.{owner_of}
+use Rattle.roll_mesh.specs.declared.seat.Seat.{Seat}
+use Rattle.roll_peer.specs.Marking.{is_numbered, IsMarkedAs, IsWhyUnmarked}
 use Rattle.roll_peer.specs.declared.received.Ignored.{Ignored}
 use Rattle.roll_peer.specs.declared.refusal.MarkRefusal.{MarkRefusal}
 use Rattle.roll_peer.specs.declared.refusal.OtherSession.{OtherSession}
@@ -17,7 +20,7 @@ use Rattle.roll_session.specs.Seen.{Seen}
 use Rattle.roll_wire.specs.declared.datagram.Mark.{Mark}
 use Rattle.fazgrond_c.specs.Carrying.{IsNextOf}
 use Rattle.fazgrond_c.specs.EpochKinds.{epoch_out, IsMarkFaulty, IsMarkOf}
-use Rattle.fazgrond_c.specs.PeerKinds.{code_of_mark, code_of_seam}
+use Rattle.fazgrond_c.specs.PeerKinds.{code_of_mark, code_of_mark_fault, code_of_seam}
 use Rattle.fazgrond_c.specs.Waiting.{AreHandedFirst}
 use Rattle.fazgrond_c.specs.Jobs.{outside}
 use Rattle.fazgrond_c.specs.Made.{closing_in}
@@ -67,12 +70,12 @@ pub record IsNextIn (old new : Network) (said : Option (ℕ × List ℕ)) : Type
   pub some : IfSome first (λ it. (said ≡ Some it) × (new ≡ here))
   pub none : IfNone first (IsNextBefore here.epochs new.epochs said × (new ≡ record here { epochs = new.epochs }))
 
--- what is to be sent to a machine that may be in it is written, or there is nothing
+-- what is to be sent in it to a machine is written, or there is nothing
 pub record IsSentBefore (machine now : ℕ) (old new : Network) (before wrote : List ℕ) (had size : ℕ) (code : ℤ) : Type 0 where
   pub result : Result (Option (List ℕ)) OtherSession
   pub sent : MatchOption old.epochs
       ((new.epochs ≡ None) × (result ≡ Ok None))
-      (λ e. IsSomeAnd new.epochs (λ later. SendsBefore seen_of old.peer machine now e later result))
+      (λ e. IsSomeAnd new.epochs (λ later. SendsBefore seen_of machine now e later result))
   pub written : AreSent result before wrote had size code
   pub rest : new ≡ record old { epochs = new.epochs }
 
@@ -99,22 +102,46 @@ pub record IsMarked (player : ℕ) (mark : Mark) (s : Seen) (old new : Network) 
   pub rest : new ≡ record old { peer = new.peer }
   pub code_is : code ≡ code_of_marking result
 
+-- whether a player, counted from 1, is this machine's
+abbrev pub is_own : ℕ → Seat → Bool
+is_own player seat = is_numbered player && (owner_of seat (player - 1) == seat.me)
+
+-- why a mark would be void, if the match goes on in epochs
+abbrev pub fault_with : ℕ → Mark → Option (Epochs Ended) → Option MarkFault
+fault_with player mark None = None
+fault_with player mark (Some e) = mark_fault e.chain player mark
+
+-- the same of a player of this machine alone
+abbrev pub fault_in : ℕ → Mark → Network → Option MarkFault
+fault_in player mark network =
+    if is_own player network.peer.member.mesh.seat then fault_with player mark network.epochs else None
+
+-- a mark that would be void isn't put anywhere
+pub record IsVoidIn (player : ℕ) (given : MarkIn) (network : Network) (code : ℤ) : Type 0 where
+  pub mark : Mark
+  pub mark_is : IsMarkOf given mark
+  pub fault : MarkFault
+  pub found : fault_in player mark network ≡ Some fault
+  pub code_is : code ≡ pos (code_of_mark_fault fault)
+
 -- the session is told all words that wait, and then the mark that was given is put there; or it can't be told, and that is all
 pub record IsMarkedTold (player : ℕ) (given : MarkIn) (old new : Network) (before after : Live) (code : ℤ) : Type 0 where
   pub mark : Mark
   pub mark_is : IsMarkOf given mark
+  pub counts : fault_in player mark old ≡ None
   pub told : Network
   pub handed_code : ℤ
   pub handed : AreHandedFirst 4294967295 old told before after handed_code
   pub marks : ((handed_code ≡ pos 0) × IsMarked player mark after.session.seen told new code)
       ⊎ ((handed_code ≢ pos 0) × ((code ≡ handed_code) × (new ≡ told)))
 
--- a mark of another version, or with a number that fits nowhere, isn't put anywhere
+-- a mark of another version, or with a number that fits nowhere, isn't put anywhere either
 abbrev pub IsMarkedIn : (player : ℕ) → MarkIn → (old new : Network) → (before after : Live) → ℤ → Type 0
 IsMarkedIn player given old new before after code =
     ((given.size ≢ MARK_SIZE) × ((code ≡ pos 205) × ((new ≡ old) × (after ≡ before))))
     ⊎ ((IsMarkFaulty given × ((code ≡ pos 11) × ((new ≡ old) × (after ≡ before))))
-    ⊎ ((given.size ≡ MARK_SIZE) × IsMarkedTold player given old new before after code))
+    ⊎ ((IsVoidIn player given old code × ((new ≡ old) × (after ≡ before)))
+    ⊎ ((given.size ≡ MARK_SIZE) × IsMarkedTold player given old new before after code)))
 
 -- ---- the next epoch
 

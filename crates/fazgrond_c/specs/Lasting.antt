@@ -5,19 +5,20 @@ use Rattle.roll_chain.specs.Chains.{first_chain, settings_in}
 use Rattle.roll_chain.specs.Sharing.{parted_until, vacant}
 use Rattle.roll_chain.specs.declared.chain.Chain.{Chain}
 use Rattle.roll_epoch.specs.Ends.{owner_of}
+use Rattle.roll_epoch.specs.Inputs.{are_even}
 use Rattle.roll_epoch.specs.declared.terms.Terms.{Terms}
 use Rattle.roll_frame.specs.declared.settings.Settings.{Settings}
 use Rattle.roll_member.specs.Joined.{join_refusal, IsTied}
 use Rattle.roll_mesh.specs.declared.limits.TheConstants.{MACHINE_LIMIT, PLAYER_LIMIT}
 use Rattle.roll_peer.specs.Peered.{IsOpenedAs, IsWhyNot, Peered}
-use Rattle.roll_peer.specs.Settings.{seat_of}
+use Rattle.roll_peer.specs.Settings.{has_numbers, seat_of}
 use Rattle.roll_peer.specs.declared.refusal.OpenRefusal.{OpenRefusal}
 use Rattle.roll_peer.specs.declared.settings.MatchSettings.{MatchSettings}
 use Rattle.roll_seam.specs.Carrying.{IsCarryingFor}
 use Rattle.roll_session.specs.Seen.{Seen}
 use Rattle.fazgrond_c.specs.EpochKinds.{AreTermsOf, IsEpochFaulty}
 use Rattle.fazgrond_c.specs.Handles.{network_in, session_in, Opens}
-use Rattle.fazgrond_c.specs.PeerKinds.{code_of_open, AreMatched, HasNoRoom}
+use Rattle.fazgrond_c.specs.PeerKinds.{code_of_opening, AreMatched, HasNoRoom}
 use Rattle.fazgrond_c.specs.Waiting.{IsHeldFor}
 use Rattle.fazgrond_c.specs.declared.epoch_kinds.EpochIn.{EpochIn}
 use Rattle.fazgrond_c.specs.declared.epoch_kinds.TheConstants.{EPOCH_SIZE}
@@ -58,14 +59,16 @@ pub record IsOpenedWithout (chain : Chain) (s : Seen) (peer : Peered) : Type 0 w
   pub tied : IsTied s first.member.mesh
   pub without : peer ≡ parted_until (vacant chain.terms) MACHINE_LIMIT first
 
--- a peer of this match, opened beside a session for this epoch, that has heard nothing, nothing waits, and it carries nothing yet
+-- a peer of this match, opened beside a session for this epoch in which each input has one delay, that has heard nothing, nothing waits, and it carries nothing yet
 pub record IsLasting (given : MatchIn) (epoch : EpochIn) (s : Seen) (network : Network) : Type 0 where
   pub base : MatchSettings
   pub terms : Terms
   pub are : AreGivenBoth given epoch base terms
+  pub even : are_even terms ≡ true
   pub played : is_played terms s.settings base.me ≡ true
   pub accepted : join_refusal s (seat_of (opening_of (chain_in base terms given.comers s))) ≡ None
   pub drawn : base.draw ≢ 0
+  pub numbered : has_numbers (opening_of (chain_in base terms given.comers s)) ≡ true
   pub opened : IsOpenedWithout (chain_in base terms given.comers s) s network.peer
   pub held : IsHeldFor given.held_turns network.held
   pub carrying : IsCarryingFor network.peer network.relay
@@ -78,6 +81,13 @@ pub record IsUneven (given : MatchIn) (epoch : EpochIn) (s : Seen) : Type 0 wher
   pub are : AreGivenBoth given epoch base terms
   pub other : is_played terms s.settings base.me ≡ false
 
+-- words of one input have other delays than each other in the epoch
+pub record IsUnlike (given : MatchIn) (epoch : EpochIn) : Type 0 where
+  pub base : MatchSettings
+  pub terms : Terms
+  pub are : AreGivenBoth given epoch base terms
+  pub unlike : are_even terms ≡ false
+
 -- there is no such match, or the session can't take its seat in it
 pub record IsUnopened (given : MatchIn) (epoch : EpochIn) (s : Seen) (code : ℤ) : Type 0 where
   pub base : MatchSettings
@@ -85,15 +95,15 @@ pub record IsUnopened (given : MatchIn) (epoch : EpochIn) (s : Seen) (code : ℤ
   pub are : AreGivenBoth given epoch base terms
   pub fault : OpenRefusal
   pub why : IsWhyNot s (opening_of (chain_in base terms given.comers s)) fault
-  pub code_is : code ≡ pos (code_of_open fault)
+  pub code_is : code ≡ pos (code_of_opening (opening_of (chain_in base terms given.comers s)) fault)
 
 -- why no peer is opened beside a session: another version's match or epoch; numbers with no room where they belong, or of another
--- session; what is no match for the session; or memory ran out
+-- session; an input with two delays; what is no match for the session; or memory ran out
 abbrev pub IsWhyNotLasting : MatchIn → EpochIn → Seen → ℤ → Type 0
 IsWhyNotLasting given epoch s code =
     ((code ≡ pos 205) × ((given.size ≢ MATCH_SIZE) ⊎ (epoch.size ≢ EPOCH_SIZE)))
     ⊎ (((code ≡ pos 11) × (HasNoRoom given ⊎ (IsEpochFaulty epoch ⊎ IsUneven given epoch s)))
-    ⊎ (IsUnopened given epoch s code ⊎ (code ≡ pos 107)))
+    ⊎ (((code ≡ pos 323) × IsUnlike given epoch) ⊎ (IsUnopened given epoch s code ⊎ (code ≡ pos 107))))
 
 pub record OpensLasting (given : MatchIn) (epoch : EpochIn) (s : Seen) (old new : Option Open) (code : ℤ) : Type 0 where
   pub opens : Opens network_in (IsLasting given epoch s) old new code

@@ -15,6 +15,7 @@ pub record AreTold (given : LineIn) (settings : LineSettings) : Type 0 where
   pub machines : settings.machines ≡ given.machines
   pub owners : settings.owners ≡ given.owners
   pub digest : settings.digest ≡ given.digest
+  pub opening : settings.opening ≡ given.opening
   pub silent_after : settings.silent_after ≡ given.silent_after
 
 -- a number of it has no room in 8 bits

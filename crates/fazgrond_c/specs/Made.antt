@@ -17,6 +17,7 @@ use Rattle.roll_requests.specs.Asked.{Asked, IsSettledSlot, Leads}
 use Rattle.roll_requests.specs.Declined.{refusal_of}
 use Rattle.roll_requests.specs.Made.{IsMade as IsMadeOf, IsNotMade as IsNotMadeOf, KeepsLeading}
 use Rattle.roll_requests.specs.declared.declined.Declined.{Declined}
+use Rattle.roll_requests.specs.declared.limits.TheConstants.{SLOTS}
 use Rattle.roll_requests.specs.declared.request.Request.{Request}
 use Rattle.roll_session.specs.Changes.{reserve_refusal, FitsLog, IsWhy}
 use Rattle.roll_session.specs.Headline.{last_claim}
@@ -161,7 +162,7 @@ pub record IsStarted (settings : Settings) (session : Asked) : Type 0 where
   pub seen : session.seen ≡ first_seen settings [] no_calls
   pub at : session.at ≡ 0
   pub requests : session.requests ≡ []
-  pub limit : session.limit ≡ 4294967295
+  pub limit : session.limit ≡ SLOTS
   pub jobs : session.jobs.slots ≡ []
   pub leads : Leads [] session
 
@@ -242,9 +243,9 @@ pub record IsHandedBy (old new : Option Open) (before after : List RequestOut) (
   pub handed : IfSome (session_in old) (λ live. IsSomeAnd (session_in new) (λ now.
       AreHanded live now before after count))
 
--- from now on no state is saved in a slot from this one on
+-- from now on no state is saved in a slot from this one on, nor past the last that there is
 pub record IsLimited (slots : ℕ) (old new : Live) (code : ℤ) : Type 0 where
-  pub limited : new ≡ record old { session = record old.session { limit = slots } }
+  pub limited : new ≡ record old { session = record old.session { limit = min slots SLOTS } }
   pub leads : KeepsLeading old.session new.session
   pub code_is : code ≡ pos 0
 

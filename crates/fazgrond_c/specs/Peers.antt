@@ -1,5 +1,5 @@
 -- What a call of a peer through a handle comes to.
-use Rattle.std.specs.Prelude.{◌≡◌, ◌≢◌, ◌⊎◌, ℕ, ℤ, pos, List, slice_get, not, Bool, nat_lt, ◌&&◌, ◌||◌, is_none, Option, Some, None, IfNone, IfSome, IsSome, IsSomeAnd, MatchOption, Result, Ok, Err, IfErr, IfOk, OnErr, OnOk, if◌then◌else◌}
+use Rattle.std.specs.Prelude.{◌≡◌, ◌≢◌, ◌⊎◌, ℕ, ℤ, pos, List, slice_get, not, true, Bool, nat_lt, ◌&&◌, ◌||◌, is_none, Option, Some, None, IfNone, IfSome, IsSome, IsSomeAnd, MatchOption, Result, Ok, Err, IfErr, IfOk, OnErr, OnOk, if◌then◌else◌}
 use Rattle.std.specs.Option.{option_map}
 use Rattle.roll_carry.specs.Carrying.{Carrying}
 use Rattle.roll_contact.specs.Contacts.{is_playing}
@@ -19,7 +19,7 @@ use Rattle.roll_peer.specs.Events.{popped}
 use Rattle.roll_peer.specs.Peered.{contact_at, IsOpenedAs, IsWhyNot, Peered}
 use Rattle.roll_peer.specs.Receiving.{ignored, meeting, ticking, IsIgnored, IsOther, Receives}
 use Rattle.roll_peer.specs.Sending.{after_send, is_lost, stats_of, IsSent}
-use Rattle.roll_peer.specs.Settings.{seat_of}
+use Rattle.roll_peer.specs.Settings.{has_numbers, seat_of}
 use Rattle.roll_peer.specs.Turning.{IsPolled}
 use Rattle.roll_peer.specs.declared.received.Ignored.{Ignored}
 use Rattle.roll_peer.specs.declared.received.Received.{Received}
@@ -34,7 +34,7 @@ use Rattle.roll_seam.specs.Carrying.{IsCarryingFor}
 use Rattle.fazgrond_c.specs.Carrying.{turned_by, IsHeardAheadBy, IsHeardBy, IsSentAheadBy, IsSentBy, SaysByeBy}
 use Rattle.fazgrond_c.specs.Epochs.{epoch_turned, IsHeardBefore, IsNextIn}
 use Rattle.fazgrond_c.specs.Handles.{network_in, session_in, IsNothing, Opens}
-use Rattle.fazgrond_c.specs.PeerKinds.{code_of_mesh, code_of_open, code_of_refusal, event_out, stats_out, AreMatched, HasNoRoom}
+use Rattle.fazgrond_c.specs.PeerKinds.{code_of_mesh, code_of_opening, code_of_refusal, event_out, stats_out, AreMatched, HasNoRoom}
 use Rattle.fazgrond_c.specs.Waiting.{code_if_told, code_of_fault, IsHeldFor}
 use Rattle.fazgrond_c.specs.Written.{code_of_receipt, AreSent, AreWritten}
 use Rattle.fazgrond_c.specs.declared.live.Live.{Live}
@@ -53,6 +53,7 @@ pub record IsOpened (given : MatchIn) (carries : Bool) (s : Seen) (network : Net
   pub are_matched : AreMatched given carries matched
   pub accepted : join_refusal s (seat_of matched) ≡ None
   pub drawn : matched.draw ≢ 0
+  pub numbered : has_numbers matched ≡ true
   pub opened : IsOpenedAs s matched network.peer
   pub tied : IsTied s network.peer.member.mesh
   pub held : IsHeldFor given.held_turns network.held
@@ -65,7 +66,7 @@ pub record IsFaulty (given : MatchIn) (carries : Bool) (s : Seen) (code : ℤ) :
   pub are_matched : AreMatched given carries matched
   pub fault : OpenRefusal
   pub why : IsWhyNot s matched fault
-  pub code_is : code ≡ pos (code_of_open fault)
+  pub code_is : code ≡ pos (code_of_opening matched fault)
 
 -- why no peer is opened beside a session: the match is another version's, a number has no room where it belongs, or the numbers
 -- are no match for it, or memory ran out
@@ -263,10 +264,10 @@ pub record IsSentMore (to : ℕ) (old new : Network) (before after : List ℕ) (
 
 -- the bytes by which this machine says to another that it leaves are written, and carried too if the line is broken; there are none
 -- for one to which nothing is sent, or that hasn't said this opening's draw
-pub record IsFarewell (machine : ℕ) (old new : Network) (before after : List ℕ) (had size : ℕ)
+pub record IsFarewell (machine why : ℕ) (old new : Network) (before after : List ℕ) (had size : ℕ)
     (code : ℤ) : Type 0 where
   pub bytes : Option (List ℕ)
-  pub said : SaysByeBy machine old new bytes
+  pub said : SaysByeBy machine why old new bytes
   pub none : is_none bytes
       ≡ (is_lost old.peer machine || not (is_playing (contact_at old.peer machine).stage))
   pub written : AreWritten bytes before after had size code

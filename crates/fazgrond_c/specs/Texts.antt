@@ -69,7 +69,16 @@ packet_text number =
     else (if number == 320 then codes "a state of too many bytes"
     else (if number == 321 then codes "the match takes no marks"
     else (if number == 322 then codes "the player has a mark already"
-    else [])))))))))))))))))))))
+    else (if number == 323 then codes "the words of an input have other delays than each other"
+    else (if number == 324 then codes "the words of an input have two owners"
+    else (if number == 325 then codes "too many words: all inputs have 8 at most together"
+    else (if number == 326 then codes "there is no number with a machine: it is 0"
+    else (if number == 327 then codes "the threshold of a mark is too great"
+    else (if number == 328 then codes "a delay of a mark is over 8 frames"
+    else (if number == 329 then codes "a mark gives a delay to a player of another machine"
+    else (if number == 330 then codes "the ticket of a mark isn't that of its name"
+    else (if number == 331 then codes "jobs are out: graft or forget them first"
+    else []))))))))))))))))))))))))))))))
 
 -- what an event tells
 abbrev pub event_text : ℕ → List ℕ
@@ -86,12 +95,13 @@ event_text number =
     else (if number == 1103 then codes "a machine means another match"
     else (if number == 1104 then codes "it is over here: another machine regards this one as gone, or it was cut off"
     else (if number == 1105 then codes "a machine was opened anew in the middle of the match"
-    else (if number == 1106 then codes "a machine gives no words, and this one waits for them"
+    else (if number == 1106 then codes "a machine holds up the match"
     else (if number == 1107 then codes "something that a machine sealed was refused"
     else (if number == 1108 then codes "a machine hasn't come so far"
     else (if number == 1109 then codes "this machine hears too few of the others"
     else (if number == 1110 then codes "a machine hasn't come so far, and datagrams come that aren't of this match"
-    else []))))))))))))))))
+    else (if number == 1111 then codes "a machine knows another mark of a player"
+    else [])))))))))))))))))
 
 -- the sentence for a number, if there is one
 abbrev pub text_of : ℕ → List ℕ

@@ -90,14 +90,14 @@ pub fn next(network: &mut Network) -> Option<(u8, ArrayVec<u8, DATAGRAM_LIMIT>)>
     }
 }
 
-/// What says to a machine that this one leaves.
-pub fn bye(network: &mut Network, machine: u8) -> Option<ArrayVec<u8, DATAGRAM_LIMIT>>
-    ensures said { SaysByeBy machine network.old network.new (option_map (λ bytes. bytes.items) result) }
+/// What says to a machine that this one leaves, and why.
+pub fn bye(network: &mut Network, machine: u8, why: u8) -> Option<ArrayVec<u8, DATAGRAM_LIMIT>>
+    ensures said { SaysByeBy machine why network.old network.new (option_map (λ bytes. bytes.items) result) }
     ensures none { is_none result ≡ (is_lost network.old.peer machine
         || not (is_playing (contact_at network.old.peer machine).stage)) }
 {
     match &mut network.relay {
-        Some(relay) => relay.bye(&network.peer, machine),
-        None => network.peer.bye(machine),
+        Some(relay) => relay.bye(&network.peer, machine, why),
+        None => network.peer.bye(machine, why),
     }
 }

@@ -1,7 +1,7 @@
 //! Calls of an open peer whose match goes on in epochs.
 ghost use Rattle.std.specs.Prelude.{◌≡◌, true, false, option_map};
 ghost use Rattle.fazgrond_c.specs.Handles.{Fills};
-ghost use Rattle.fazgrond_c.specs.Epochs.{epoch_in, is_over_in, judged_network, stayed_in, GoesOnBeside, GoesOnFrom, GoesOnJudged, IsHeardBefore, IsMarked, IsMarkedIn, IsNextBefore, IsNextIn, IsSentBefore};
+ghost use Rattle.fazgrond_c.specs.Epochs.{epoch_in, fault_in, is_over_in, is_own, judged_network, stayed_in, GoesOnBeside, GoesOnFrom, GoesOnJudged, IsHeardBefore, IsMarked, IsMarkedIn, IsNextBefore, IsNextIn, IsSentBefore};
 
 use crate::calls::{NOTHING, OTHER_VERSION, PENDING, TOO_SHORT};
 use crate::carrying;
@@ -9,10 +9,12 @@ use crate::epoch_kinds::{EpochIn, MARK_SIZE, MarkIn};
 use crate::live::Live;
 use crate::network::Network;
 use crate::peer_calls::{code_of_receipt, write_sent};
-use crate::peer_refusal::{NOT_SEALED, code_of_mark, code_of_seam};
+use crate::peer_refusal::{NOT_SEALED, code_of_mark, code_of_mark_fault, code_of_seam};
 use crate::waiting_calls::hand_over;
 use arrayvec::ArrayVec;
+use roll_epoch::MarkFault;
 use roll_frame::Refusal;
+use roll_mesh::PLAYER_LIMIT;
 use roll_requests::JOBS_OUT;
 use roll_seam::Epochs;
 use roll_session::Networked;
@@ -52,7 +54,7 @@ fn next_before(network: &mut Network) -> Option<(u8, ArrayVec<u8, DATAGRAM_LIMIT
     }
 }
 
-/// Writes what is to be sent to a machine that may still be in the epoch before.
+/// Writes what is to be sent to a machine in the epoch before.
 pub fn send_before(
     network: &mut Network,
     machine: u8,
@@ -66,14 +68,14 @@ pub fn send_before(
     if out.len() < DATAGRAM_LIMIT {
         return TOO_SHORT;
     }
-    let Network { peer, epochs, .. } = network;
+    let Network { epochs, .. } = network;
     match epochs {
-        Some(epochs) => write_sent(out, size, epochs.send(peer, machine, now)),
+        Some(epochs) => write_sent(out, size, epochs.send(machine, now)),
         None => NOTHING,
     }
 }
 
-/// Puts a mark on a player's next word. Words that wait are handed over first, since a mark takes a session that knows all words.
+/// Puts a mark on a player's next word, unless it would be void. Words that wait are handed over first, since a mark takes a session that knows all words.
 pub fn mark(network: &mut Network, live: &mut Live, player: u8, given: &MarkIn) -> i32
     ensures { IsMarkedIn player given.now network.old network.new live.old live.new result }
 {
@@ -83,11 +85,37 @@ pub fn mark(network: &mut Network, live: &mut Live, player: u8, given: &MarkIn) 
     let Some(mark) = given.mark() else {
         return Refusal::InvalidRequest.code();
     };
+    if let Some(why) = fault_in(network, player, &mark) {
+        return code_of_mark_fault(why);
+    }
     let code = hand_over(network, live, u32::MAX);
     if code != 0 {
         return code;
     }
     mark_told(network, live, player, mark)
+}
+
+/// Why a mark of a player of this machine would be void in this epoch, if it would be.
+fn fault_in(network: &Network, player: u8, mark: &Mark) -> Option<MarkFault>
+    ensures { result ≡ fault_in player mark.now network.now }
+{
+    if !is_own(network, player) {
+        return None;
+    }
+    match &network.epochs {
+        Some(epochs) => epochs.chain.mark_fault(player, mark),
+        None => None,
+    }
+}
+
+/// Whether a player, counted from 1, is this machine's.
+fn is_own(network: &Network, player: u8) -> bool
+    ensures { result ≡ is_own player network.now.peer.member.mesh.seat }
+{
+    let seat = network.peer.mesh().seat();
+    player != 0
+        && usize::from(player) <= PLAYER_LIMIT
+        && seat.owners[usize::from(player) - 1] == seat.me
 }
 
 /// Puts it there beside a session that was told all words that came.

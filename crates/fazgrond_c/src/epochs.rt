@@ -1,12 +1,13 @@
 //! Matches that go on in epochs, for games in other languages.
-ghost use Rattle.std.specs.Prelude.{◌≡◌, ◌≢◌, ◌<◌, None, IfErr, IfOk, OnOk};
+ghost use Rattle.std.specs.Prelude.{◌≡◌, ◌≢◌, ◌<◌, pos, true, None, IfErr, IfOk, OnOk};
 ghost use Rattle.roll_chain.specs.Comers.{ticket_for};
 ghost use Rattle.roll_member.specs.Joined.{join_refusal};
 ghost use Rattle.roll_peer.specs.Peered.{IsWhyNot};
-ghost use Rattle.roll_peer.specs.Settings.{seat_of};
+ghost use Rattle.roll_peer.specs.Settings.{has_numbers, seat_of};
 ghost use Rattle.roll_mesh.specs.declared.limits.TheConstants.{PLAYER_LIMIT};
 ghost use Rattle.fazgrond_c.specs.Handles.{network_in, FillsBy, Makes, MakesBeside, ReadsSome, Writes, WritesBeside};
 ghost use Rattle.fazgrond_c.specs.Epochs.{epoch_in, stayed_in, GoesOnBeside, IsMarkedIn, IsSentBefore};
+ghost use Rattle.fazgrond_c.specs.PeerKinds.{code_of_opening};
 ghost use Rattle.fazgrond_c.specs.Lasting.{are_delayed, chain_in, is_delayed, is_played, opening_of, IsOpenedLasting, IsOpenedWithout, OpensLasting};
 
 use crate::calls::{CLOSED, NOTHING, OTHER_VERSION, open_in};
@@ -17,7 +18,7 @@ use crate::live::Live;
 use crate::network::Network;
 use crate::open::Open;
 use crate::peer_kinds::{MATCH_SIZE, MatchIn};
-use crate::peer_refusal::code_of_open;
+use crate::peer_refusal::{UNLIKE_DELAYS, code_of_opening};
 use roll_chain::{Chain, ticket_for};
 use roll_epoch::Terms;
 use roll_frame::{Refusal, Settings};
@@ -70,12 +71,15 @@ fn open_beside(
     let (Some(base), Some(terms)) = (given.settings(true), epoch.terms()) else {
         return Refusal::InvalidRequest.code();
     };
+    if !terms.are_even() {
+        return UNLIKE_DELAYS;
+    }
     if !is_played(&terms, live.session.settings(), base.me) {
         return Refusal::InvalidRequest.code();
     }
     let (peer, epochs) = match open_epochs(alloc, live, base, terms, given.comers) {
         Ok(opened) => opened,
-        Err(why) => return code_of_open(why),
+        Err(why) => return code_beside(live, base, terms, given.comers, why),
     };
     let Ok(relay) = relay_for(alloc, &peer) else {
         return Refusal::NoMemory.code();
@@ -85,6 +89,21 @@ fn open_beside(
         handle,
         Open::Peer(Network::new(peer, given.held_turns, relay, Some(epochs))),
     )
+}
+
+/// How a match goes on from an epoch beside a session.
+fn chain_beside(live: &Live, base: MatchSettings, terms: Terms, comers: u64) -> Chain
+    ensures { result ≡ chain_in base terms comers live.now.session.seen }
+{
+    Chain::new(base, live.session.settings().profile, terms, comers)
+}
+
+/// The number of why its network isn't opened.
+fn code_beside(live: &Live, base: MatchSettings, terms: Terms, comers: u64, why: OpenRefusal) -> i32
+    ensures { result ≡ pos (code_of_opening (opening_of (chain_in base terms comers live.now.session.seen)) why) }
+{
+    let chain = chain_beside(live, base, terms, comers);
+    code_of_opening(&chain.settings(), why)
 }
 
 /// The network of an epoch beside a session, and how its match goes on.
@@ -102,10 +121,12 @@ fn open_epochs(
     ensures accepted { OnOk result (join_refusal live.now.session.seen
         (seat_of (opening_of (chain_in base terms comers live.now.session.seen))) ≡ None) }
     ensures drawn { OnOk result (base.draw ≢ 0) }
+    ensures numbered { OnOk result
+        (has_numbers (opening_of (chain_in base terms comers live.now.session.seen)) ≡ true) }
     ensures refused { IfErr result
         (IsWhyNot live.now.session.seen (opening_of (chain_in base terms comers live.now.session.seen))) }
 {
-    let chain = Chain::new(base, live.session.settings().profile, terms, comers);
+    let chain = chain_beside(live, base, terms, comers);
     match Peer::open(alloc, &live.session, chain.settings()) {
         Ok(mut peer) => {
             chain.leave_out(&mut peer);
@@ -276,7 +297,7 @@ pub extern "C" fn fazgrond_peer_go_on(
     code
 }
 
-/// What to send to a machine that may still be in the epoch before.
+/// What to send to a machine in the epoch before.
 #[unsafe(no_mangle)]
 pub extern "C" fn fazgrond_peer_send_before(
     alloc: Global,

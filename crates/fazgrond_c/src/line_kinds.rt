@@ -13,6 +13,7 @@ pub struct LineIn {
     pub number: u64,
     pub draw: u64,
     pub digest: u64,
+    pub opening: u64,
     pub host: u32,
     pub machines: u32,
     pub owners: [u32; PLAYER_LIMIT],
@@ -36,6 +37,7 @@ impl LineIn {
             machines,
             owners,
             digest: self.digest,
+            opening: self.opening,
             silent_after: self.silent_after,
         })
     }

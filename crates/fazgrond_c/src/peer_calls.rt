@@ -248,15 +248,15 @@ pub fn send_more(network: &mut Network, machine: &mut u8, out: &mut [u8], size: 
     0
 }
 
-/// Writes what says to a machine that this one leaves.
-pub fn bye(network: &mut Network, machine: u8, out: &mut [u8], size: &mut usize) -> i32
-    ensures { Fills (IsFarewell machine) network.old network.new out.old out.new size.old size.new
+/// Writes what says to a machine that this one leaves, and why.
+pub fn bye(network: &mut Network, machine: u8, why: u8, out: &mut [u8], size: &mut usize) -> i32
+    ensures { Fills (IsFarewell machine why) network.old network.new out.old out.new size.old size.new
         result }
 {
     if out.len() < DATAGRAM_LIMIT {
         return TOO_SHORT;
     }
-    match carrying::bye(network, machine) {
+    match carrying::bye(network, machine, why) {
         Some(bytes) => {
             write(out, size, &bytes);
             0

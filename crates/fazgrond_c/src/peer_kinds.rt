@@ -8,9 +8,9 @@ use roll_mesh::MACHINE_LIMIT;
 use roll_peer::{Field, MatchSettings, PeerEvent, Stats};
 
 /// How many bytes `MatchIn` takes.
-pub const MATCH_SIZE: u32 = 160;
+pub const MATCH_SIZE: u32 = 168;
 
-const _: () = prove!(size_of::<MatchIn>() == 160);
+const _: () = prove!(size_of::<MatchIn>() == 168);
 
 /// How a peer is opened beside a session.
 #[repr(C)]
@@ -21,6 +21,8 @@ pub struct MatchIn {
     pub numbers: [u64; MACHINE_LIMIT],
     pub draw: u64,
     pub digest: u64,
+    /// A digest of the opening state.
+    pub opening: u64,
     /// By what it is known who may come to a match that goes on; 0: anybody may.
     pub comers: u64,
     pub me: u32,
@@ -35,7 +37,7 @@ pub struct MatchIn {
 }
 
 impl MatchIn {
-    /// The match, if each number has room where it belongs. With two machines nobody carries.
+    /// The match, if each number has room where it belongs. A machine that carries says so of two machines too: they may become more.
     pub fn settings(&self, carries: bool) -> Option<MatchSettings>
         ensures matched { IfSome result (AreMatched self.now carries) }
         ensures none { IfNone result (HasNoRoom self.now) }
@@ -57,10 +59,11 @@ impl MatchIn {
             numbers: self.numbers,
             draw: self.draw,
             digest: self.digest,
+            opening: self.opening,
             silent_after: self.silent_after,
             notify_after: self.notify_after,
             stalled_after: self.stalled_after,
-            carries: carries && machines > 2,
+            carries,
             takes_marks: false,
             words,
         })
@@ -95,6 +98,7 @@ pub struct EventOut {
     pub disconnect_in: u32,
     pub frame: u32,
     pub field: u32,
+    pub bye: u32,
 }
 
 impl EventOut {
@@ -123,7 +127,10 @@ impl EventOut {
                 disconnect_in,
             } => EventOut::before_end(1006, machine, disconnect_in),
             PeerEvent::Resumed { machine } => EventOut::by(1007, machine),
-            PeerEvent::Left { machine } => EventOut::by(1101, machine),
+            PeerEvent::Left { machine, bye } => EventOut {
+                bye: u32::from(bye),
+                ..EventOut::by(1101, machine)
+            },
             PeerEvent::Desync { machine, frame } => EventOut {
                 frame,
                 ..EventOut::by(1102, machine)
@@ -148,6 +155,10 @@ impl EventOut {
                 count,
                 ..EventOut::bare(1110)
             },
+            PeerEvent::TwoMarks { machine, player } => EventOut {
+                player: u32::from(player),
+                ..EventOut::by(1111, machine)
+            },
         }
     }
 
@@ -165,6 +176,7 @@ impl EventOut {
             disconnect_in: 0,
             frame: 0,
             field: 0,
+            bye: 0,
         }
     }
 
@@ -209,6 +221,8 @@ fn number_of(field: Field) -> u32
         Field::Owners => 2,
         Field::Settings => 3,
         Field::Words => 4,
+        Field::Lasting => 5,
+        Field::Opening => 6,
     }
 }
 
@@ -225,6 +239,8 @@ pub struct StatsOut {
     pub frames_behind: i32,
     pub their_frames_behind: i32,
     pub refused: u32,
+    pub dropped: u32,
+    pub restarted: u32,
 }
 
 impl StatsOut {
@@ -242,6 +258,8 @@ impl StatsOut {
             frames_behind: stats.frames_behind,
             their_frames_behind: stats.their_frames_behind,
             refused: stats.refused,
+            dropped: stats.dropped,
+            restarted: u32::from(stats.restarted),
         }
     }
 }

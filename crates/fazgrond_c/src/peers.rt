@@ -10,7 +10,7 @@ use crate::network::Network;
 use crate::open::Open;
 use crate::peer_calls;
 use crate::peer_kinds::{EventOut, MATCH_SIZE, MatchIn, StatsOut};
-use crate::peer_refusal::code_of_open;
+use crate::peer_refusal::code_of_opening;
 use roll_frame::Refusal;
 use roll_peer::Peer;
 use roll_seam::relay_for;
@@ -92,7 +92,7 @@ fn open_beside(
     };
     let peer = match Peer::open(alloc, &live.session, settings) {
         Ok(peer) => peer,
-        Err(why) => return code_of_open(why),
+        Err(why) => return code_of_opening(&settings, why),
     };
     let Ok(relay) = relay_for(alloc, &peer) else {
         return Refusal::NoMemory.code();
@@ -299,16 +299,17 @@ fn note_settled(alloc: Global, handle: &mut Handle, live: &Live, digest: u64) ->
     code
 }
 
-/// What says to a machine that this one leaves.
+/// What says to a machine that this one leaves, and why.
 #[unsafe(no_mangle)]
 pub extern "C" fn fazgrond_peer_bye(
     alloc: Global,
     handle: &mut Handle,
     machine: u8,
+    why: u8,
     out: &mut [u8],
     size: &mut usize,
 ) -> i32
-    ensures { FillsBy network_in (IsFarewell machine) handle.old.hold.value handle.new.hold.value
+    ensures { FillsBy network_in (IsFarewell machine why) handle.old.hold.value handle.new.hold.value
         out.old out.new size.old size.new result }
 {
     let Some(mut held) = handle.take(alloc) else {
@@ -318,7 +319,7 @@ pub extern "C" fn fazgrond_peer_bye(
         handle.put(held);
         return CLOSED;
     };
-    let code = peer_calls::bye(network, machine, out, size);
+    let code = peer_calls::bye(network, machine, why, out, size);
     handle.put(held);
     code
 }

@@ -122,6 +122,15 @@ fn packet_text(number: u32) -> &'static str
         320 => "a state of too many bytes",
         321 => "the match takes no marks",
         322 => "the player has a mark already",
+        323 => "the words of an input have other delays than each other",
+        324 => "the words of an input have two owners",
+        325 => "too many words: all inputs have 8 at most together",
+        326 => "there is no number with a machine: it is 0",
+        327 => "the threshold of a mark is too great",
+        328 => "a delay of a mark is over 8 frames",
+        329 => "a mark gives a delay to a player of another machine",
+        330 => "the ticket of a mark isn't that of its name",
+        331 => "jobs are out: graft or forget them first",
         _ => "",
     }
 }
@@ -143,11 +152,12 @@ fn event_text(number: u32) -> &'static str
         1103 => "a machine means another match",
         1104 => "it is over here: another machine regards this one as gone, or it was cut off",
         1105 => "a machine was opened anew in the middle of the match",
-        1106 => "a machine gives no words, and this one waits for them",
+        1106 => "a machine holds up the match",
         1107 => "something that a machine sealed was refused",
         1108 => "a machine hasn't come so far",
         1109 => "this machine hears too few of the others",
         1110 => "a machine hasn't come so far, and datagrams come that aren't of this match",
+        1111 => "a machine knows another mark of a player",
         _ => "",
     }
 }

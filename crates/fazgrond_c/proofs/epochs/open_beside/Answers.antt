@@ -1,11 +1,12 @@
-use Rattle.std.proofs.Common.{◌≡◌, ◌∙◌, rules, w32, inr, refl, sym, subst, ap, Some, Option}
+use Rattle.std.proofs.Common.{◌≡◌, ◌∙◌, rules, w32, inl, inr, refl, sym, subst, ap, Some, Option}
 use Rattle.std.specs.Prelude.{FitsSigned, pos}
 use Rattle.std.proofs.lemmas.Int.{to_z-of_z}
 use Rattle.roll_carry.specs.Carrying.{Carrying}
 use Rattle.roll_frame.specs.declared.settings.Settings.{Settings}
 use Rattle.roll_peer.specs.Peered.{Peered}
 use Rattle.roll_seam.specs.Carrying.{IsCarryingFor}
-use Rattle.fazgrond_c.specs.Lasting.{chain_in, is_played, IsLasting, IsOpenedWithout}
+use Rattle.fazgrond_c.specs.Lasting.{chain_in, is_played, opening_of, IsLasting, IsOpenedWithout}
+use Rattle.fazgrond_c.proofs.Openings.{not_opened}
 use Rattle.fazgrond_c.proofs.epochs.open_beside.Goals as goal
 
 not_open : pos 107 ≡ pos 0 → ⊥
@@ -18,7 +19,25 @@ returns-in_default-relay_for c =
     rw to_z-of_z
     (record {
       opens = record { opened = λ e. absurd (not_open (sym short ∙ e)); refused = λ n. refl };
-      why = λ n. inr (inr (inr short));
+      why = λ n. inr (inr (inr (inr short)));
+    })
+
+pub returns-in-Err : goal.returns-in-Err
+returns-in-Err c =
+    let fits : FitsSigned w32 c.code_beside.result = search rules in
+    let failed : c.code_beside.result ≡ pos 0 → ⊥ = λ e. not_opened (opening_of (chain_in c.in-Some-Some.base c.in-Some-Some.terms c.args.given.now.comers c.args.live.now.session.seen)) c.in-Err.why
+    (sym c.code_beside.ensures ∙ e) in
+    rw to_z-of_z
+    (record {
+      opens = record { opened = λ e. absurd (failed e); refused = λ n. refl };
+      why = λ n. inr (inr (inr (inl (record {
+        base = c.in-Some-Some.base;
+        terms = c.in-Some-Some.terms;
+        are = record { matched = c.in-Some-Some.ensures.matched; terms_are = c.in-Some-Some.ensures'.given };
+        fault = c.in-Err.why;
+        why = c.in-Err.ensures.refused;
+        code_is = c.code_beside.ensures;
+      }))));
     })
 
 pub returns : goal.returns
@@ -32,9 +51,11 @@ returns c =
       base = base;
       terms = terms;
       are = record { matched = c.in-Some-Some.ensures.matched; terms_are = c.in-Some-Some.ensures'.given };
+      even = sym c.are_even.ensures ∙ c.if-not-are_even.false;
       played = sym (c.is_played.ensures ∙ ap (λ (x : Settings). is_played terms x base.me) c.settings-2.ensures) ∙ c.if-not-is_played.false;
       accepted = c.in-Ok.ensures.accepted;
       drawn = c.in-Ok.ensures.drawn;
+      numbered = c.in-Ok.ensures.numbered;
       opened = subst (λ (p : Peered). IsOpenedWithout chain s p) (sym c.new.ensures.peer) c.in-Ok.ensures.opened;
       held = c.new.ensures.held;
       carrying = subst (λ (p : Peered). IsCarryingFor p c.new.result.relay) (sym c.new.ensures.peer)
@@ -44,5 +65,5 @@ returns c =
     rw to_z-of_z
     (record {
       opens = record { opened = λ e. rw (c.open_in.ensures.opened e) lasting; refused = λ n. (c.open_in.ensures.refused n).1 };
-      why = λ n. inr (inr (inr (c.open_in.ensures.refused n).0));
+      why = λ n. inr (inr (inr (inr (c.open_in.ensures.refused n).0)));
     })

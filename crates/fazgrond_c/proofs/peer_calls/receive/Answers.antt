@@ -1,6 +1,6 @@
-use Rattle.std.proofs.Common.{◌≡◌, rules, w32, inl, subst, ap, sym, ◌∙◌, Option}
+use Rattle.std.proofs.Common.{◌≡◌, rules, w32, inl, inr, refl, subst, ap, sym, ◌∙◌, Option}
 use Rattle.std.specs.Prelude.{FitsSigned, pos}
-use Rattle.std.proofs.Common.{to_z}
+use Rattle.std.proofs.Common.{of_z, to_z}
 use Rattle.std.proofs.lemmas.Int.{to_z-of_z}
 use Rattle.roll_requests.specs.Ended.{Ended}
 use Rattle.roll_seam.specs.declared.epochs.Epochs.{Epochs}
@@ -24,4 +24,17 @@ returns-then-code-eq-NOT_SEALED c =
         subst (λ (e : Option (Epochs Ended)). IsHeardBefore c.args.bytes.now c.args.now e c.hear_before.new.network.epochs c.hear_before.result)
             c.receive_now-code.ensures.epochs c.hear_before.ensures.heard,
       );
+    })
+
+pub returns-else-code-eq-NOT_SEALED : goal.returns-else-code-eq-NOT_SEALED
+returns-else-code-eq-NOT_SEALED c =
+    let fits : FitsSigned w32 c.receive_now-code.result = search rules in
+    rw to_z-of_z
+    (record {
+      here = c.receive_now-code.result;
+      heard = c.receive_now-code.new.network;
+      received = c.receive_now-code.ensures.received;
+      epochs = c.receive_now-code.ensures.epochs;
+      rest = refl;
+      past = inr (λ e. c.if-code-eq-NOT_SEALED.false (ap (of_z w32) e), (c.receive_now-code.ensures.epochs, refl));
     })
