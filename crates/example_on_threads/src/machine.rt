@@ -59,7 +59,9 @@ pub fn the_match(me: u8) -> MatchSettings {
         numbers: [0x1122_3344_5566_7788; 8],
         // Each machine draws its own, anew whenever it opens a match.
         draw: 0x99AA_BBCC_DDEE_FF00 + u64::from(me),
-        digest: digest(&Fight::opening()),
+        // Of the game's build, and of the state in which it opens.
+        digest: 1,
+        opening: digest(&Fight::opening()),
         // Nobody is put out here, however long a thread has to wait for a processor.
         silent_after: 0,
         notify_after: 0,

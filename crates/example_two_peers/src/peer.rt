@@ -14,6 +14,9 @@ use thiserror::Error;
 /// The last frame of the match.
 pub const LAST_FRAME: u32 = 300;
 
+/// Why it says bye: it leaves.
+const LEAVES: u8 = 1;
+
 /// How many milliseconds a turn takes, about.
 const TURN: u32 = 16;
 
@@ -158,7 +161,7 @@ impl Side {
             return Ok(None);
         }
         self.byes -= 1;
-        Ok(self.peer.bye(self.way.to))
+        Ok(self.peer.bye(self.way.to, LEAVES))
     }
 
     /// Whether the last frame is settled here, and nothing is left to tell: the other said that it has all words of this side.
@@ -204,7 +207,9 @@ fn the_match(me: u8) -> MatchSettings {
         numbers: [0x1122_3344_5566_7788; 8],
         // Each machine draws its own, anew whenever it opens a match. Here it is fixed, so that the program prints the same.
         draw: 0x99AA_BBCC_DDEE_FF00 + u64::from(me),
-        digest: digest(&Fight::opening()),
+        // Of the game's build, and of the state in which it opens.
+        digest: 1,
+        opening: digest(&Fight::opening()),
         silent_after: 5_000,
         notify_after: 750,
         stalled_after: 0,

@@ -183,8 +183,8 @@ It prints, and after it the line for scripts:
   1               1          2        27         2        64         0       256       254       1795
 
   machine  bytes/s to each  received      lost   ignored  round trip
-  0                   1914        77         4         1      167 ms
-  1                   1820        74         0         0      184 ms
+  0                   1978        77         4         1      167 ms
+  1                   1861        74         0         0      184 ms
 
   all 2 that stay agree: frame 60 settled, state 111
 

@@ -792,14 +792,14 @@ impl<G: Shown + Drop> Machine<G> {
         }
     }
 
-    /// What it sends to a machine that may still be in the epoch before.
+    /// What it sends to a machine in the epoch before.
     fn made_before(&mut self, to: u8, now: u32) -> Result<Option<Bytes>, Refusal>
         ensures { self.new.me ≡ self.old.me }
     {
         let Some(epochs) = &mut self.epochs else {
             return Ok(None);
         };
-        match epochs.send(&self.peer, to, now) {
+        match epochs.send(to, now) {
             Ok(sent) => Ok(sent),
             Err(OtherSession) => Err(Refusal::InvalidRequest),
         }
@@ -1147,7 +1147,7 @@ fn relay_of(alloc: Global, peer: &Peer) -> Result<Option<Relay>, AllocError> {
 /// What refuses a match that can't be opened.
 fn refusal_of(why: OpenRefusal) -> Refusal {
     match why {
-        OpenRefusal::Join(_) | OpenRefusal::NoDraw => Refusal::InvalidRequest,
         OpenRefusal::NoMemory => Refusal::NoMemory,
+        _ => Refusal::InvalidRequest,
     }
 }

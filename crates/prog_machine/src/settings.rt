@@ -15,9 +15,9 @@ const FIRST_STREAM: u64 = 64;
 /// The same of a machine's second opening.
 const SECOND_STREAM: u64 = 80;
 
-/// The number of the match.
+/// The number of the match, which isn't 0.
 pub fn match_number(options: &PeersOptions) -> u64 {
-    options.common.seed
+    options.common.seed.max(1)
 }
 
 /// The draw of a machine's opening. It comes of the seed, so that the match repeats.
@@ -59,6 +59,7 @@ pub fn match_settings(options: &PeersOptions, me: u8) -> MatchSettings {
         numbers: [match_number(options); MACHINE_LIMIT],
         draw: draw_of(options, me),
         digest: u64::from(options.common.frames),
+        opening: 0,
         silent_after: SILENT_AFTER,
         notify_after: NOTIFY_AFTER,
         stalled_after: 0,

@@ -25,6 +25,7 @@ pub use fault::SettingsFault;
 pub use limits::{
     ADVANTAGE_LIMIT, ADVICE_WINDOW, BRANCH_LIMIT, DELAY_LIMIT, FRAME_LIMIT, LEAST_ADVICE,
     LOG_LIMIT, MOST_ADVICE, PATH_LIMIT, PLAYER_LIMIT, QUEUE_LIMIT, SYNC_TEST_LIMIT, TREE_LIMIT,
+    limits_are,
 };
 pub use path::Path;
 pub use profile::Profile;

@@ -1,4 +1,5 @@
 //! The limits of sessions and the numbers of the advice, each named once. A profile has its own at `Profile`.
+ghost use Rattle.std.specs.Prelude.{◌≡◌, pos};
 
 /// The most players of any session.
 pub const PLAYER_LIMIT: usize = 8;
@@ -26,3 +27,20 @@ pub const ADVANTAGE_LIMIT: i32 = 120;
 pub const LEAST_ADVICE: u32 = 3;
 /// The longest wait, in frames, that is advised.
 pub const MOST_ADVICE: u32 = 9;
+
+/// The numbers that clauses cite by name.
+pub fn limits_are()
+    ensures players { PLAYER_LIMIT ≡ 8 }
+    ensures delay { DELAY_LIMIT ≡ 8 }
+    ensures frames { FRAME_LIMIT ≡ 1_048_576 }
+    ensures log { LOG_LIMIT ≡ 16_777_216 }
+    ensures queue { QUEUE_LIMIT ≡ 128 }
+    ensures path { PATH_LIMIT ≡ 24 }
+    ensures branch { BRANCH_LIMIT ≡ 8 }
+    ensures sync_test { SYNC_TEST_LIMIT ≡ 8 }
+    ensures tree { TREE_LIMIT ≡ 256 }
+    ensures window { ADVICE_WINDOW ≡ 40 }
+    ensures advantage { ADVANTAGE_LIMIT ≡ pos 120 }
+    ensures least_advice { LEAST_ADVICE ≡ 3 }
+    ensures most_advice { MOST_ADVICE ≡ 9 }
+{}

@@ -246,13 +246,12 @@ fn an_end(rt: HostRuntime) -> Result<(), Fail> {
             },
         );
     }
-    let welcome = [true; PLAYER_LIMIT];
-    let end = marks.end(&FIRST, &welcome, &left(&[]), 30);
+    let end = marks.end(&FIRST, &left(&[]), 30);
     assert_eq!(rt; end.map(|end| (end.frame, end.player)), Some((21, 3)));
-    assert!(rt; marks.end(&FIRST, &welcome, &left(&[]), 20).is_none());
+    assert!(rt; marks.end(&FIRST, &left(&[]), 20).is_none());
     assert_eq!(rt;
         marks
-            .end(&FIRST, &welcome, &left(&[(3, 20)]), 30)
+            .end(&FIRST, &left(&[(3, 20)]), 30)
             .map(|end| end.frame),
         Some(22)
     );

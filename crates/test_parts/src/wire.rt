@@ -7,11 +7,11 @@ use roll_wire::{
 };
 use std::test::Fail;
 
-const HELLO: [u8; 53] = [
+const HELLO: [u8; 61] = [
     0x46, 0x5a, 0x47, 0x34, 0x11, 0x22, 0x33, 0x44, 0x55, 0x66, 0x77, 0x88, 0x01, 0x00, 0x02, 0x01,
     0x00, 0x01, 0xff, 0xff, 0xff, 0xff, 0xff, 0xff, 0x01, 0x23, 0x45, 0x67, 0x89, 0xab, 0xcd, 0xef,
-    0x11, 0x12, 0x13, 0x14, 0x15, 0x16, 0x17, 0x18, 0x01, 0x02, 0x03, 0x04, 0x05, 0x06, 0x07, 0x08,
-    0x00, 0x00, 0x13, 0x88, 0x00,
+    0x51, 0x52, 0x53, 0x54, 0x55, 0x56, 0x57, 0x58, 0x11, 0x12, 0x13, 0x14, 0x15, 0x16, 0x17, 0x18,
+    0x01, 0x02, 0x03, 0x04, 0x05, 0x06, 0x07, 0x08, 0x00, 0x00, 0x13, 0x88, 0x00,
 ];
 
 const PLAY: [u8; 51] = [
@@ -33,15 +33,15 @@ const MARKED: [u8; 43] = [
     0x35, 0x36, 0x37, 0x38, 0x02, 0x03, 0x00, 0x02, 0x05, 0x02, 0x07,
 ];
 
-const BYE: [u8; 14] = [
-    0x46, 0x5a, 0x47, 0x34, 0x11, 0x22, 0x33, 0x44, 0x55, 0x66, 0x77, 0x88, 0x01, 0x02,
+const BYE: [u8; 15] = [
+    0x46, 0x5a, 0x47, 0x34, 0x11, 0x22, 0x33, 0x44, 0x55, 0x66, 0x77, 0x88, 0x01, 0x02, 0x01,
 ];
 
-const LINE_HELLO: [u8; 53] = [
+const LINE_HELLO: [u8; 61] = [
     0x46, 0x5a, 0x47, 0x34, 0x99, 0xaa, 0xbb, 0xcc, 0xdd, 0xee, 0xff, 0x00, 0xff, 0x00, 0x02, 0x01,
     0x00, 0x01, 0xff, 0xff, 0xff, 0xff, 0xff, 0xff, 0x01, 0x23, 0x45, 0x67, 0x89, 0xab, 0xcd, 0xef,
-    0xd1, 0xd2, 0xd3, 0xd4, 0xd5, 0xd6, 0xd7, 0xd8, 0xc1, 0xc2, 0xc3, 0xc4, 0xc5, 0xc6, 0xc7, 0xc8,
-    0x00, 0x00, 0x0b, 0xb8, 0x00,
+    0x51, 0x52, 0x53, 0x54, 0x55, 0x56, 0x57, 0x58, 0xd1, 0xd2, 0xd3, 0xd4, 0xd5, 0xd6, 0xd7, 0xd8,
+    0xc1, 0xc2, 0xc3, 0xc4, 0xc5, 0xc6, 0xc7, 0xc8, 0x00, 0x00, 0x0b, 0xb8, 0x00,
 ];
 
 const ROWS: [u8; 51] = [
@@ -108,7 +108,7 @@ fn plain(number: u32, has: [u32; 2], first: u32, end: u32, words: Words) -> Body
 fn marked_at(frame: u32, players: [bool; PLAYER_LIMIT]) -> Body {
     let Body::Play(mut play) = plain(130, [119, 123], 117, 123, words_of(&[0, 0, 5, 5, 5, 7]))
     else {
-        return Body::Bye;
+        return Body::Bye { why: 0 };
     };
     let mut delays = [None; PLAYER_LIMIT];
     delays[1] = Some(3);
@@ -298,6 +298,7 @@ fn the_examples(rt: HostRuntime) -> Result<(), Fail> {
         words: 1,
         owners: [0, 1, 255, 255, 255, 255, 255, 255],
         settings: 0x0123_4567_89ab_cdef,
+        opening: 0x5152_5354_5556_5758,
         draw: 0x1112_1314_1516_1718,
         echo: 0x0102_0304_0506_0708,
         patience: 5_000,
@@ -308,7 +309,7 @@ fn the_examples(rt: HostRuntime) -> Result<(), Fail> {
     assert!(rt; is_text(&datagram(full()), PLAY.as_slice()));
     assert!(rt; is_text(&datagram(held), HELD.as_slice()));
     assert!(rt; is_text(&datagram(marked_at(121, THIRD)), MARKED.as_slice()));
-    assert!(rt; is_text(&datagram(Body::Bye), BYE.as_slice()));
+    assert!(rt; is_text(&datagram(Body::Bye { why: 1 }), BYE.as_slice()));
     Ok(())
 }
 
@@ -319,6 +320,7 @@ fn the_examples_of_a_line(rt: HostRuntime) -> Result<(), Fail> {
         words: 1,
         owners: [0, 1, 255, 255, 255, 255, 255, 255],
         settings: 0x0123_4567_89ab_cdef,
+        opening: 0x5152_5354_5556_5758,
         draw: 0xd1d2_d3d4_d5d6_d7d8,
         echo: 0xc1c2_c3c4_c5c6_c7c8,
         patience: 3_000,
@@ -353,8 +355,6 @@ fn has_no_text(rt: HostRuntime) -> Result<(), Fail> {
     assert!(rt; encode(&datagram(plain(0, [0, 0], 0, 141, changing(140)))).is_none());
     assert!(rt; encode(&datagram(plain(0, [0, 0], 0, 396, changing(140)))).is_none());
     assert!(rt; encode(&datagram(plain(0, [0, 0], 1, 0, changing(0)))).is_none());
-    assert!(rt; encode(&datagram(marked_at(122, THIRD))).is_some());
-    assert!(rt; encode(&datagram(marked_at(123, THIRD))).is_none());
     assert!(rt; encode(&datagram(marked_at(121, [false; PLAYER_LIMIT]))).is_none());
     Ok(())
 }
@@ -371,11 +371,12 @@ fn fault_of<const N: usize>(text: [u8; N], place: usize, byte: u8) -> Option<Wir
 #[test]
 fn refuses(rt: HostRuntime) -> Result<(), Fail> {
     assert_eq!(rt; decode(&BYE[..13]).err(), Some(WireFault::Short));
+    assert_eq!(rt; decode(&BYE[..14]).err(), Some(WireFault::Short));
     assert_eq!(rt; decode(&PLAY[..50]).err(), Some(WireFault::Short));
     assert_eq!(rt; decode(&PLAY[1..]).err(), Some(WireFault::Magic));
     assert_eq!(rt; fault_of(BYE, 3, 0x32), Some(WireFault::Magic));
     assert_eq!(rt; fault_of(BYE, 13, 3), Some(WireFault::Kind));
-    assert_eq!(rt; decode(&HELLO[..51]).err(), Some(WireFault::Short));
+    assert_eq!(rt; decode(&HELLO[..60]).err(), Some(WireFault::Short));
     assert_eq!(rt; fault_of(PLAY, 16, 2), Some(WireFault::Flag));
     assert_eq!(rt; fault_of(PLAY, 33, 2), Some(WireFault::Flag));
     assert_eq!(rt; fault_of(PLAY, 15, 0), Some(WireFault::Long));
@@ -396,9 +397,36 @@ fn refuses_marks(rt: HostRuntime) -> Result<(), Fail> {
     assert_eq!(rt; fault_of(PLAY, 46, 128), Some(WireFault::Short));
     assert_eq!(rt; fault_of(many, 46, 1), Some(WireFault::TooMany));
     assert_eq!(rt; decode(&MARKED[..39]).err(), Some(WireFault::Short));
-    assert_eq!(rt; fault_of(MARKED, 26, 116), Some(WireFault::Misplaced));
-    assert_eq!(rt; fault_of(MARKED, 26, 117), None);
-    assert_eq!(rt; fault_of(MARKED, 26, 123), Some(WireFault::Misplaced));
+    Ok(())
+}
+
+/// A turn that has a mark of each player, of whom only player 1 has words in it.
+fn marked_for_all(frame: u32) -> Body {
+    let Body::Play(mut play) = marked_at(frame, THIRD) else {
+        return Body::Bye { why: 0 };
+    };
+    play.marks = [play.marks[1]; PLAYER_LIMIT];
+    Body::Play(play)
+}
+
+#[test]
+fn marks_need_no_word_beside_them(rt: HostRuntime) -> Result<(), Fail> {
+    for frame in [0, 116, 117, 122, 123, u32::MAX] {
+        let turn = datagram(marked_for_all(frame));
+        let text = encode(&turn).ok_or("it has a text")?;
+        assert!(rt; is_text(&turn, text.as_slice()));
+    }
+    Ok(())
+}
+
+/// Whatever a bye says, it is read, and written as it was.
+#[test]
+fn any_bye(rt: HostRuntime) -> Result<(), Fail> {
+    for why in [0, 1, 2, 127, 128, 255] {
+        let mut text = BYE;
+        text[14] = why;
+        assert!(rt; is_text(&datagram(Body::Bye { why }), text.as_slice()));
+    }
     Ok(())
 }
 
@@ -422,7 +450,7 @@ fn who_takes_no_marks_refuses_them(rt: HostRuntime) -> Result<(), Fail> {
 fn any_hello(rt: HostRuntime) -> Result<(), Fail> {
     for byte in [0, 1, 2, 127, 128, 255] {
         let mut text = HELLO;
-        for place in 14..52 {
+        for place in 14..61 {
             text[place] = byte;
         }
         let read = decode(text.as_slice()).ok();
