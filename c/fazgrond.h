@@ -97,7 +97,8 @@ typedef struct fazgrond_row {
  * JOB_LOAD, JOB_SAVE, JOB_STEP: the same as the first three, for a state that is not the current one: a job's. A guess's job is
  * one JOB_LOAD, and a JOB_STEP and a JOB_SAVE for each row, one after another.
  * A refused call leaves no requests.
- * The least free slots are always taken, so the slots are as many as states are saved at once: at most 257, and those of jobs. */
+ * The least free slots are always taken, so the slots are as many as states are saved at once: at most 257, and those of jobs. All
+ * are below 1024. */
 enum {
     FAZGROND_LOAD = 1, FAZGROND_SAVE = 2, FAZGROND_STEP = 3, FAZGROND_FREE = 4,
     FAZGROND_JOB_LOAD = 5, FAZGROND_JOB_SAVE = 6, FAZGROND_JOB_STEP = 7
@@ -188,7 +189,18 @@ enum {
     FAZGROND_TOO_LONG = 320,                /* the state has more bytes than the limit that the taker was given, or 2^32 or more
                                              * */
     FAZGROND_NO_MARKS = 321,                /* the match doesn't go on in epochs, so that no word has a mark */
-    FAZGROND_MARKED = 322                   /* the player has a mark in this epoch already */
+    FAZGROND_MARKED = 322,                  /* the player has a mark in this epoch already */
+    FAZGROND_UNLIKE_DELAYS = 323,           /* the words of an input have other delays than each other: in the session, the epoch,
+                                             * or after a mark */
+    FAZGROND_TWO_OWNERS = 324,              /* the match: the words of an input have two owners, or some of them have none */
+    FAZGROND_TOO_MANY_WORDS = 325,          /* the match: too many words. An input that a machine owns has some past the eighth
+                                             * place */
+    FAZGROND_NO_NUMBER = 326,               /* the match: a number with another machine is 0 */
+    FAZGROND_GREAT_THRESHOLD = 327,         /* a mark: the threshold is over 15, or over what the session's limits allow */
+    FAZGROND_LONG_DELAY = 328,              /* a mark: a delay is over 8 */
+    FAZGROND_OTHERS_DELAY = 329,            /* a mark: it gives a delay to a player that isn't this machine's */
+    FAZGROND_WRONG_TICKET = 330,            /* a mark: the ticket isn't of the match's `comers`, and the name in it */
+    FAZGROND_JOBS_OUT = 331                 /* the epoch is over, and jobs are out: graft or forget them first */
 };
 
 /* Opens a session. Before the first request the game has its opening state as the current one and in slot 0. If the handle is
@@ -250,7 +262,8 @@ int32_t fazgrond_forget(fazgrond_session *session, uint32_t job);
  * were freed, a call that rolls back once jobs were forgotten. */
 int32_t fazgrond_limit_slots(fazgrond_session *session, uint32_t slots);
 
-/* Makes room for so many more events: none of them is then refused for want of memory by the log. */
+/* Makes room for so many more events: none of them is then refused with FAZGROND_NO_MEMORY, but for want of slots if they are
+ * limited. */
 int32_t fazgrond_reserve_log(fazgrond_session *session, uint32_t events);
 
 /* The current frame. */
@@ -335,7 +348,7 @@ typedef struct fazgrond_peer {
 #define FAZGROND_NOTIFY_AFTER 750
 
 /* The players, limits and masks of the session are the same at each machine, and its local players are those that `me` owns; so
- * are `digest`, `comers`, `machines`, `owners` and `words`, and the number of each two machines at both of them. Begin with
+ * are `digest`, `opening`, `comers`, `machines`, `owners` and `words`, and the number of each two machines at both of them. Begin with
  * fazgrond_match_for, so that members which a later version adds have a value too.
  *
  * The draw: 64 bits of the system's source of random bits (getrandom, BCryptGenRandom or the like), drawn anew for each opening
@@ -345,10 +358,11 @@ typedef struct fazgrond_peer {
  * has forgotten what it had told them. */
 typedef struct fazgrond_match {
     uint32_t size;                       /* sizeof(fazgrond_match) */
-    uint64_t numbers[FAZGROND_MACHINES]; /* with each machine a number that only these two know, 64 random bits; that of `me` is
-                                          * not read. The same in all places: the match's number */
+    uint64_t numbers[FAZGROND_MACHINES]; /* with each machine a number that only these two know, 64 random bits, and never 0; that of
+                                          * `me` is not read. The same in all places: the match's number */
     uint64_t draw;                       /* drawn for this opening: not 0 */
-    uint64_t digest;                     /* of all else that has to be alike at all machines */
+    uint64_t digest;                     /* of all else that has to be alike at all machines, but for the opening state */
+    uint64_t opening;                    /* of the opening state: compared before the match begins. 0 if you have none */
     uint64_t comers;                     /* who may come to a match that goes on: see fazgrond_ticket. 0: anybody whom a mark has
                                           * come. Of no meaning in a match that doesn't go on */
     uint32_t me;                         /* which machine this is */
@@ -360,11 +374,11 @@ typedef struct fazgrond_match {
     uint32_t notify_after;               /* milliseconds after which FAZGROND_INTERRUPTED tells of a machine of which nothing
                                           * comes, and FAZGROND_STALLED of one that holds this one up; 0: neither is told */
     uint32_t stalled_after;              /* milliseconds after which a machine is gone that answers, and holds this one up since
-                                          * it gives no words, unless it hasn't begun; 0: it never is, and the match may stand for
-                                          * good */
+                                          * it gives no words, unless it hasn't begun; `silent_after` later if it takes none, or
+                                          * if another may keep it. 0: it never is, and the match may stand for good */
     uint32_t words;                      /* of how many words a player's input is, 1 to 4: so many of the session's players in a row
                                           * are one player of the match, with one owner. They leave together, and of no frame are some
-                                          * of their words taken and others not. Give them one delay, in the session and in marks */
+                                          * of their words taken and others not. Give them one delay, in the session, in epochs and in marks */
     uint32_t held_turns;                 /* for how many turns at most the others' words wait beside the session, 1 to 8: see "Words
                                           * held back" below. 0: the session is given them as they come. No machine sees which of
                                           * them another one has */
@@ -378,6 +392,7 @@ static inline fazgrond_match fazgrond_match_for(uint32_t machines, uint32_t me) 
     match.size = (uint32_t)sizeof match;
     match.draw = 0;
     match.digest = 0;
+    match.opening = 0;
     match.comers = 0;
     match.me = me;
     match.machines = machines;
@@ -405,17 +420,20 @@ static inline void fazgrond_one_number(fazgrond_match *match, uint64_t number) {
  * TIME_SYNC: this machine is ahead: give no word for `frames_ahead` turns.
  * INTERRUPTED: `machine` is silent, and gone in `disconnect_in` milliseconds; that is 0 if `silent_after` is. RESUMED: it was
  * heard again.
- * LEFT: `machine` is gone for good. So is one that a mark has let in, and that isn't there `silent_after` after the seam (10,000
- * milliseconds if that is 0). DESYNC: it has another state at the settled frame `frame`.
+ * LEFT: `machine` is gone for good. So is one that a mark has let in, and that isn't there twice `silent_after` after the seam
+ * (10,000 milliseconds if that is 0), and any that hasn't played on `stalled_after` later, if that isn't 0. If it said bye, `bye` is
+ * why (FAZGROND_BYE_LEAVES and the like), else 0.
+ * DESYNC: `machine` has another state at the settled frame `frame`. It is the first such frame, as far as both have noted digests; or
+ * the least that was found in 2 seconds. Told once of each machine in an epoch.
  * MISMATCH: `machine` means another match: `field` is 1 if it has another number of machines, 2 if other owners, 3 if another
- * digest or other `comers`, or its match alone goes on in epochs, 4 if inputs of another number of words. It may come in the middle
- * of a match too.
+ * digest or other `comers`, 4 if inputs of another number of words, 5 if its match alone goes on in epochs, or this one's, 6 if another
+ * opening state. It may come in the middle of a match too.
  * DROPPED: the match is over here. Another machine regards this one as gone, or this one was cut off for too long. Told once in an
  * epoch.
  * RESTARTED: `machine` was opened anew. It can't come back into this match: its old opening is silent from now on, and gone by
  * that, and its new one waits until you open a match anew too. Told once of each machine.
- * STALLED: `machine` is heard, and holds this one up, since it gives no words. If it is to be gone for that, it is in
- * `disconnect_in` milliseconds, else that is 0. Told once, until it gives a word.
+ * STALLED: `machine` is heard, and holds this one up: it gives no words, or takes none, or stays in the epoch before. If it is to be
+ * gone for that, it is in `disconnect_in` milliseconds, else that is 0. Told once, until it goes on.
  * REFUSED: what `machine` sealed was refused, or a word of it was: its program is broken, or it lies. Told as RESTARTED; the stats
  * count how often.
  * MISSING: `silent_after` has passed since this peer was opened, and `machine` isn't there yet. Told once. It is waited for, until
@@ -424,12 +442,15 @@ static inline void fazgrond_one_number(fazgrond_match *match, uint64_t number) {
  * version, or name this machine's place or one that there isn't. Told once.
  * CUT_OFF: of three machines or more this one hears too few, and so regards none of them as gone. The match is over here in
  * `disconnect_in` milliseconds, as DROPPED tells then, unless it hears more of them again. Told whenever that begins.
+ * TWO_MARKS: `machine` knows another mark of `player` than this machine. The player's machine told it in two ways, or one of those that
+ * tell of it lies: the epochs of the two may end in two ways. Told once of each machine.
  * c/numbers writes the list. */
 enum {
     FAZGROND_SYNCHRONIZING = 1001, FAZGROND_SYNCHRONIZED = 1002, FAZGROND_RUNNING = 1003, FAZGROND_DISCONNECTED = 1004,
     FAZGROND_TIME_SYNC = 1005, FAZGROND_INTERRUPTED = 1006, FAZGROND_RESUMED = 1007, FAZGROND_LEFT = 1101, FAZGROND_DESYNC = 1102,
     FAZGROND_MISMATCH = 1103, FAZGROND_DROPPED = 1104, FAZGROND_RESTARTED = 1105, FAZGROND_STALLED = 1106,
-    FAZGROND_REFUSED = 1107, FAZGROND_MISSING = 1108, FAZGROND_CUT_OFF = 1109, FAZGROND_STRANGERS = 1110
+    FAZGROND_REFUSED = 1107, FAZGROND_MISSING = 1108, FAZGROND_CUT_OFF = 1109, FAZGROND_STRANGERS = 1110,
+    FAZGROND_TWO_MARKS = 1111
 };
 
 /* What an event doesn't say is 0. */
@@ -443,7 +464,12 @@ typedef struct fazgrond_event {
     uint32_t disconnect_in;
     uint32_t frame;
     uint32_t field;
+    uint32_t bye;
 } fazgrond_event;
+
+/* Why a machine says bye: it leaves, it plays another state than the others, or it can't go on. From FAZGROND_BYE_OWN to 255 they are the
+ * program's own. The library tells them, and does nothing else by them. */
+enum { FAZGROND_BYE_LEAVES = 1, FAZGROND_BYE_DESYNC = 2, FAZGROND_BYE_ERROR = 3, FAZGROND_BYE_OWN = 16 };
 
 /* What was counted and measured of the datagrams between this machine and another. */
 typedef struct fazgrond_stats {
@@ -456,6 +482,8 @@ typedef struct fazgrond_stats {
     int32_t frames_behind;       /* by how many frames this machine is behind the other: negative if it is ahead */
     int32_t their_frames_behind; /* and the other, as it says, behind this one */
     uint32_t refused;            /* how many datagrams that it sealed were refused, or had words that were */
+    uint32_t dropped;            /* how many of its datagrams called this machine gone */
+    uint32_t restarted;          /* whether it was opened anew in the middle of the match */
 } fazgrond_stats;
 
 /* The most bytes of a datagram. */
@@ -464,8 +492,11 @@ typedef struct fazgrond_stats {
 /* Opens a peer beside an open session, which stays the game's: close each of the two when you need it no more. Of the session
  * nothing changes. If the peer's handle is open, its peer is closed once the new one is there; if the new one is refused, the old
  * one stays. One session can get a new peer only while it has no word of another machine's player.
- * FAZGROND_INVALID_MACHINE: too few or too many machines, or `me` is none of them; `words` is not 1 to 4, or the words of an input
- * are too few or have two owners.
+ * FAZGROND_INVALID_MACHINE: too few or too many machines, or `me` is none of them; or `words` is not 1 to 4.
+ * FAZGROND_TWO_OWNERS: the words of an input have two owners, or some of them have none.
+ * FAZGROND_TOO_MANY_WORDS: an input that a machine owns has words past the eighth place of `owners`.
+ * FAZGROND_NO_NUMBER: the number with another machine is 0.
+ * FAZGROND_UNLIKE_DELAYS: the words of an input of `me` have other delays than each other in the session.
  * FAZGROND_INVALID_PLAYER: the session's players are not those that machines own, or its local ones not those of `me`.
  * FAZGROND_INVALID_REQUEST: the draw is 0; or `me`, `machines` or an owner is over 255, or `held_turns` over 8; or the session has
  * words of another machine's player already, or a player has left it. */
@@ -474,7 +505,7 @@ int32_t fazgrond_peer_open(fazgrond_peer *peer, fazgrond_session *session, const
 /* The same of a peer that carries, for a match of three machines or more: where the line between two of them breaks, a third one that
  * both hear hands their datagrams on, so nobody is gone for it. Call fazgrond_peer_send_more after fazgrond_peer_send, in each turn;
  * the latter is FAZGROND_NOTHING too if what it has for a machine is carried, or goes with what is. A machine carries with those
- * that were opened so too. With two machines it is fazgrond_peer_open. */
+ * that were opened so too. Of two machines each says so, and that is all. */
 int32_t fazgrond_peer_open_carrying(fazgrond_peer *peer, fazgrond_session *session, const fazgrond_match *match);
 
 /* Closes it. Nothing happens if it is closed. The session stays open. */
@@ -507,10 +538,10 @@ int32_t fazgrond_peer_send(fazgrond_peer *peer, fazgrond_session *session, uint8
  * FAZGROND_NOTHING: of a peer that was opened by fazgrond_peer_open it always is. The room, as for fazgrond_peer_send. */
 int32_t fazgrond_peer_send_more(fazgrond_peer *peer, uint8_t *machine, uint8_t *out, size_t room, size_t *length);
 
-/* The datagram that says to a machine that this one leaves the match: another one for each machine. Send each a few times. A peer that
- * carries has it carried too, if the line is broken: so call fazgrond_peer_send_more after it.
+/* The datagram that says to a machine that this one leaves the match, and why (FAZGROND_BYE_LEAVES and the like): another one for each
+ * machine. Send each a few times. A peer that carries has it carried too, if the line is broken: so call fazgrond_peer_send_more after it.
  * FAZGROND_NOTHING: the machine is gone, or this one, or none, or it and this one haven't heard each other. */
-int32_t fazgrond_peer_bye(fazgrond_peer *peer, uint8_t machine, uint8_t *out, size_t room, size_t *length);
+int32_t fazgrond_peer_bye(fazgrond_peer *peer, uint8_t machine, uint8_t why, uint8_t *out, size_t room, size_t *length);
 
 /* Regards a machine as gone, for good. Its players leave the session at a later fazgrond_peer_poll, once it is known which words
  * of them the remaining machines have. */
@@ -582,16 +613,17 @@ int32_t fazgrond_peer_is_pressed(fazgrond_peer *peer, fazgrond_session *session,
  * has a delay of 2 frames, unless the mark says another one.
  *
  * A mark is void, as if it weren't there, if its threshold is over 15 or a delay over 8, if it gives a delay to a player of another
- * machine, or if somebody is to come with a ticket that isn't of the match's `comers` (fazgrond_ticket). Of each player the first mark
- * of an epoch counts alone, even if it is void.
+ * machine, if by it the words of an input have other delays than each other, or if somebody is to come with a ticket that isn't of the
+ * match's `comers` (fazgrond_ticket). fazgrond_peer_mark puts none that would be void: those come of a program that is broken, or lies.
+ * Of each player the first mark of an epoch counts alone, even if it is void.
  *
  * A turn of such a match:
  *   fazgrond_peer_receive for each datagram that came, then fazgrond_peer_poll;
  *   fazgrond_peer_is_running: until it says 1, give no words, and skip the next two lines;
  *   fazgrond_peer_go_on: if it is FAZGROND_OK, carry out the requests;
  *   local words, the advance and its requests, as in any match;
- *   fazgrond_peer_event until there is none. For each other machine fazgrond_peer_send, and then fazgrond_peer_send_before. Then
- *   fazgrond_peer_send_more until there is nothing. */
+ *   fazgrond_peer_event until there is none. For each other machine of the epoch (fazgrond_epoch_has) fazgrond_peer_send, and then
+ *   fazgrond_peer_send_before. Then fazgrond_peer_send_more until there is nothing. */
 
 /* The owner of a player whom nobody owns now, and whom somebody who comes may get. It is another thing than FAZGROND_NO_PLAYER: such a
  * player is in no epoch of the match. */
@@ -645,6 +677,17 @@ static inline fazgrond_epoch fazgrond_epoch_for(const fazgrond_match *match, con
     return epoch;
 }
 
+/* Whether a machine is in an epoch: 1 if it owns a player there, else 0. Send to those of which it is 1 in what fazgrond_peer_epoch says,
+ * but not to `me`. A machine that has left, or never was there, has no address; the number of one that left may get another address
+ * once somebody has come. */
+static inline uint32_t fazgrond_epoch_has(const fazgrond_epoch *epoch, uint32_t machine) {
+    int at;
+    for (at = 0; at < FAZGROND_PLAYERS; at++)
+        if (machine < FAZGROND_MACHINES && epoch->owners[at] == machine)
+            return 1;
+    return 0;
+}
+
 /* A mark that changes nothing: the frames begin anew, and that is all. */
 static inline fazgrond_mark fazgrond_mark_for(void) {
     fazgrond_mark mark;
@@ -666,8 +709,11 @@ uint64_t fazgrond_ticket(uint64_t comers, uint32_t name);
 
 /* Opens a peer whose match goes on in epochs, beginning with this one. It carries, as one of fazgrond_peer_open_carrying. All machines of
  * a match are opened so, or none. Of the match `owners`, `machines` and `words` aren't read, since the epoch says them, but they have to be
- * 255 at most. Answers as fazgrond_peer_open, and FAZGROND_INVALID_REQUEST too if the session's threshold, or a delay of its own players,
- * isn't that of the epoch. FAZGROND_OTHER_VERSION: the match or the epoch is of another version's header. */
+ * 255 at most. Answers as fazgrond_peer_open, and these too.
+ * FAZGROND_INVALID_REQUEST: the session's threshold, or a delay of its own players, isn't that of the epoch.
+ * FAZGROND_UNLIKE_DELAYS: the words of an input have other delays than each other in the epoch.
+ * FAZGROND_NO_NUMBER: if players are nobody's, the number with the lowest machine that isn't there is 0. Whoever comes gets it.
+ * FAZGROND_OTHER_VERSION: the match or the epoch is of another version's header. */
 int32_t fazgrond_peer_open_lasting(fazgrond_peer *peer, fazgrond_session *session, const fazgrond_match *match,
                                    const fazgrond_epoch *epoch);
 
@@ -684,7 +730,9 @@ int32_t fazgrond_peer_has_stayed(fazgrond_peer *peer, uint8_t machine, uint32_t 
  * FAZGROND_NO_MARKS: the match doesn't go on in epochs.
  * FAZGROND_INVALID_PLAYER: it is no player of this machine, or not the first word of an input.
  * FAZGROND_MARKED: it has a mark in this epoch already.
- * FAZGROND_INVALID_REQUEST: a number of the mark fits nowhere. One that fits and is too great makes the mark void, and isn't refused.
+ * FAZGROND_INVALID_REQUEST: a number of the mark is over 255, and a delay also no FAZGROND_AS_BEFORE.
+ * FAZGROND_GREAT_THRESHOLD, FAZGROND_LONG_DELAY, FAZGROND_OTHERS_DELAY, FAZGROND_UNLIKE_DELAYS, FAZGROND_WRONG_TICKET: the mark would be
+ * void.
  * FAZGROND_OTHER_SESSION: as in other calls that take both.
  * FAZGROND_OTHER_VERSION: the mark is of another version's header. */
 int32_t fazgrond_peer_mark(fazgrond_peer *peer, fazgrond_session *session, uint8_t player, const fazgrond_mark *mark);
@@ -697,16 +745,16 @@ int32_t fazgrond_peer_mark(fazgrond_peer *peer, fazgrond_session *session, uint8
  * frame `frames`. All that is counted by frames begins anew with it: settled rows, confirmed words, the log.
  * It leaves requests, which are carried out as those of a rollback: the last ones of the old epoch, after which all slots are free but
  * slot 0, which has the state at the end, and then those of the frames that are run again.
- * The numbers of all jobs are forgotten: none of their requests may be carried out any more. So if threads carry some out, have them
- * end before you take these requests, and graft or forget none of those jobs.
  *
- * FAZGROND_PENDING: the last requests of the epoch before weren't taken yet. Other answers are those of fazgrond_open and
- * fazgrond_peer_open: this epoch stays as it is, but that words held back may have been handed over. FAZGROND_INVALID_REQUEST among them:
- * the others go on without this machine, since it has left for them. */
+ * FAZGROND_JOBS_OUT: this epoch is over, and jobs are out, whose slots the next one gives out again. Have their threads end with them,
+ * graft or forget them all, and call again.
+ * FAZGROND_PENDING: the last requests of the epoch before weren't taken yet.
+ * Other answers are those of fazgrond_open and fazgrond_peer_open; by FAZGROND_INVALID_REQUEST the others go on without this machine,
+ * since it has left for them. If it isn't FAZGROND_OK, this epoch stays as it is, but that words held back may have been handed over. */
 int32_t fazgrond_peer_go_on(fazgrond_peer *peer, fazgrond_session *session, uint32_t *frames);
 
-/* What is to be sent to a machine that may still be in the epoch before, in each turn after fazgrond_peer_send for it: a datagram, as
- * there. So who hasn't come to this epoch yet is told how the one before ended. FAZGROND_NOTHING: there is nothing to send. */
+/* What is to be sent to a machine in the epoch before, in each turn after fazgrond_peer_send for it: a datagram, as there. So who hasn't
+ * come to this epoch yet is told how the one before ended, by others too. FAZGROND_NOTHING: there is nothing to send. */
 int32_t fazgrond_peer_send_before(fazgrond_peer *peer, uint8_t machine, uint32_t now, uint8_t *out, size_t room,
                                   size_t *length);
 
@@ -730,6 +778,7 @@ typedef struct fazgrond_line_settings {
     uint64_t number;                   /* the line's own number: 64 random bits that only these two know. Not the match's */
     uint64_t draw;                     /* drawn for this opening of this end, as in the match: not 0 */
     uint64_t digest;                   /* as in the match */
+    uint64_t opening;                  /* as in the match */
     uint32_t host;                     /* which machine of the match is watched, from 0 */
     uint32_t machines;                 /* as in the match */
     uint32_t owners[FAZGROND_PLAYERS]; /* as in the match */

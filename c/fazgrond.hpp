@@ -96,6 +96,15 @@ enum class [[nodiscard]] Code : std::int32_t {
     too_long = FAZGROND_TOO_LONG,
     no_marks = FAZGROND_NO_MARKS,
     marked = FAZGROND_MARKED,
+    unlike_delays = FAZGROND_UNLIKE_DELAYS,
+    two_owners = FAZGROND_TWO_OWNERS,
+    too_many_words = FAZGROND_TOO_MANY_WORDS,
+    no_number = FAZGROND_NO_NUMBER,
+    great_threshold = FAZGROND_GREAT_THRESHOLD,
+    long_delay = FAZGROND_LONG_DELAY,
+    others_delay = FAZGROND_OTHERS_DELAY,
+    wrong_ticket = FAZGROND_WRONG_TICKET,
+    jobs_out = FAZGROND_JOBS_OUT,
 };
 
 // The sentence for an answer.
@@ -355,9 +364,9 @@ public:
         return Code(fazgrond_peer_send_more(handle.get(), &machine, out.bytes.data(), out.bytes.size(), &out.length));
     }
 
-    // The datagram that says to a machine that this one leaves. The answer is nothing if there is none to send.
-    Code bye(std::uint8_t machine, Datagram &out) {
-        return Code(fazgrond_peer_bye(handle.get(), machine, out.bytes.data(), out.bytes.size(), &out.length));
+    // The datagram that says to a machine that this one leaves, and why. The answer is nothing if there is none to send.
+    Code bye(std::uint8_t machine, Datagram &out, std::uint8_t why = FAZGROND_BYE_LEAVES) {
+        return Code(fazgrond_peer_bye(handle.get(), machine, why, out.bytes.data(), out.bytes.size(), &out.length));
     }
 
     Code disconnect(std::uint8_t machine) { return Code(fazgrond_peer_disconnect(handle.get(), machine)); }
@@ -417,7 +426,7 @@ public:
         return Code(fazgrond_peer_open_lasting(handle.get(), session.handle.get(), &match, &epoch));
     }
 
-    // How this epoch opened. Nothing if the match doesn't go on in epochs.
+    // How this epoch opened. Nothing if the match doesn't go on in epochs. Whom to send to in it, fazgrond_epoch_has says.
     std::optional<Epoch> epoch() { return asked<Epoch>(handle.get(), fazgrond_peer_epoch); }
 
     // Whether a machine is in this epoch and was in the one before, and hasn't come in with this one. False of each in the epoch with which
@@ -432,8 +441,8 @@ public:
     }
 
     // Goes on in the next epoch if this one is over, in each turn after `poll` and before the session is given words. Gives each request
-    // to `carry_out`; the jobs of this epoch are over then. The session is at the frame `frames` of the next one. The answer is nothing
-    // if this epoch isn't over.
+    // to `carry_out`. The session is at the frame `frames` of the next one. The answer is nothing if this epoch isn't over, and jobs_out
+    // if it is and jobs have to be grafted or forgotten first.
     template <class CarryOut>
     Code go_on(Session &session, std::uint32_t &frames, CarryOut &&carry_out) {
         Code code = Code(fazgrond_peer_go_on(handle.get(), session.handle.get(), &frames));
@@ -441,7 +450,7 @@ public:
         return code;
     }
 
-    // What is to be sent, after `send`, to a machine that may still be in the epoch before. The answer is nothing if there is nothing.
+    // What is to be sent, after `send`, to a machine in the epoch before. The answer is nothing if there is nothing.
     Code send_before(std::uint8_t machine, std::uint32_t now, Datagram &out) {
         return Code(fazgrond_peer_send_before(handle.get(), machine, now, out.bytes.data(), out.bytes.size(), &out.length));
     }

@@ -82,15 +82,34 @@ class Parameter:
 
 
 @dataclass
+class Given:
+    """What a member of a struct is made: a number, a constant, a parameter or a member of one. `few`: up to `most` players."""
+    member: str
+    most: str
+    few: str
+    value: str
+    is_list: bool = False
+
+    def in_c(self):
+        choice = f"players <= {self.most} ? {self.few} : " if self.most else ""
+        return f"{self.member}{'[at]' if self.is_list else ''} = {choice}{self.value}"
+
+
+@dataclass
 class Call:
     answer: str
     name: str
     parameters: list
     is_inline: bool  # its code stands in the header, and not in the library
+    gives: list = field(default_factory=list)  # if it makes a struct: what it gives to each member
 
     def in_c(self):
         told = ", ".join(it.in_c() for it in self.parameters) or "void"
         return [f"{'static inline ' if self.is_inline else ''}{type_in_c(self.answer)} fazgrond_{self.name}({told});"]
+
+    def code_in_c(self):
+        """What it gives to members, in lines by their names."""
+        return sorted(f"fazgrond_{self.name}: {it.in_c()}" for it in self.gives)
 
 
 def type_in_c(kind):
@@ -106,6 +125,7 @@ STRUCT = re.compile(r"struct (\w+)")
 CALL = re.compile(r"(call|inline) (\w+) (\w+)\((.*)\)")
 ITEM = re.compile(r"    ([A-Z_]+) (\d+)")
 MEMBER = re.compile(r"    (\w+) (\w+)(?:\[(\w+)\])?")
+GIVEN = re.compile(r"    (\w+) (?:players <= (\d+) \? (\w+) : )?([\w.]+)")
 PARAMETER = re.compile(r"(?:(in|out|both) )?(\w+) (\w+)(?:\[(\w+)(?:: (\w+))?\])?")
 NUMBER = re.compile(r"(-?\d+) (\w+): ")
 
@@ -150,6 +170,8 @@ def add_part(thing, line):
         thing.items.append(found.groups())
     elif isinstance(thing, Struct) and (found := MEMBER.fullmatch(line)):
         thing.members.append(Member(found[1], found[2], found[3] or ""))
+    elif isinstance(thing, Call) and thing.is_inline and (found := GIVEN.fullmatch(line)):
+        thing.gives.append(Given(*[it or "" for it in found.groups()]))
     else:
         raise Fault("can't be read")
 
@@ -182,6 +204,10 @@ class Interface:
         """Those that the library has."""
         return [it for it in self.of(Call) if not it.is_inline]
 
+    def makers(self):
+        """Those in the header that make a struct."""
+        return [it for it in self.of(Call) if it.gives]
+
 
 def lines_of(path):
     """The lines of a table with their numbers, without those that say nothing; what goes on in the next line is one."""
@@ -205,7 +231,20 @@ def read(path=TABLE):
             raise Fault(f"{path.name}, line {at}: {why}") from why
     found = Interface(things)
     check_words(found)
+    for maker in found.makers():
+        fill(maker, next(it for it in found.structs() if it.name == maker.answer))
     return found
+
+
+def fill(maker, struct):
+    """Has a maker give something to each member, in the struct's order."""
+    told = {it.member: it for it in maker.gives}
+    if not told.keys() <= {it.name for it in struct.members}:
+        raise Fault(f"{maker.name}: {struct.name} has no such member")
+    plain = {"size": Given("size", "", "", "sizeof")}
+    maker.gives = [(plain | told).get(it.name) or Given(it.name, "", "", "0") for it in struct.members]
+    for given, it in zip(maker.gives, struct.members):
+        given.is_list = bool(it.count)
 
 
 def check_words(interface):
@@ -244,7 +283,8 @@ PIECES = re.compile(
       |typedef\ struct\ fazgrond_(?P<struct>\w+)\ \{(?P<members>[^}]*)\}\ fazgrond_(?P=struct);
       |enum\ \{(?P<items>[^}]*)\};
       |(?P<inline>static\ inline\ )?(?P<answer>\w+)\ fazgrond_(?P<call>\w+)\((?P<parameters>[^)]*)\)
-        (?:;|\ \{\n(?s:.*?)\n\})""", re.X)
+        (?:;|\ \{\n(?P<code>(?s:.*?))\n\})""", re.X)
+SET = re.compile(r"^ +\w+\.(\w+)(\[at\])? = (?:players <= (\d+) \? (\w+) : )?(.+);$", re.M)
 KINDS = {name: kind for kind, name in TYPES.items() if kind != "answer"} | {"void *": "pointer"}
 
 
@@ -282,7 +322,15 @@ def thing_in(found):
         return Struct(found["struct"], members_of(found["members"]))
     if found["items"]:
         return Enum("", re.findall(r"FAZGROND_(\w+)\s*=\s*(\d+)", found["items"]))
-    return Call(kind_of(found["answer"]), found["call"], parameters_of(found["parameters"]), bool(found["inline"]))
+    return Call(kind_of(found["answer"]), found["call"], parameters_of(found["parameters"]), bool(found["inline"]),
+                given_in(found["code"] or ""))
+
+
+def given_in(code):
+    """What a call of the header gives to the members of the struct that it makes."""
+    code = re.sub(r"\(uint32_t\)sizeof \w+", "sizeof", code.replace("FAZGROND_", ""))
+    return [Given(member, most, few, (value.removesuffix("[at]") if at else value).replace("->", "."), bool(at))
+            for member, at, most, few, value in SET.findall(code)]
 
 
 def header_of(text):
@@ -311,6 +359,8 @@ def difference(interface, header):
     """The first line in which a table and a header differ; nothing if there is none."""
     due = [line for it in interface.things for line in it.in_c()]
     there = [(at, line) for at, it in header_of(header) for line in it.in_c()]
+    due += [line for it in interface.makers() for line in it.code_in_c()]
+    there += [(at, line) for at, it in header_of(header) if isinstance(it, Call) for line in it.code_in_c()]
     for line, (at, found) in zip_longest(due, there, fillvalue=(0, "nothing more")):
         line = line if isinstance(line, str) else line[1]
         if line != found:
