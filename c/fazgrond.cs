@@ -35,10 +35,13 @@ public static unsafe class Fazgrond
                      OwnMachine = 304, MachineGone = 305, Mismatched = 306, Overstated = 307, Ended = 308, OtherSender = 309,
                      NoRows = 310, RowsMissing = 311, Outside = 312, OtherSession = 313, OtherKind = 314, OtherState = 315,
                      Barred = 316, NotNow = 317, PastTheEnd = 318, WrongLength = 319, TooLong = 320, NoMarks = 321,
-                     Marked = 322;
+                     Marked = 322, UnlikeDelays = 323, TwoOwners = 324, TooManyWords = 325, NoNumber = 326,
+                     GreatThreshold = 327, LongDelay = 328, OthersDelay = 329, WrongTicket = 330, JobsOut = 331;
     public const uint Synchronizing = 1001, Synchronized = 1002, Running = 1003, Disconnected = 1004, TimeSync = 1005,
                       Interrupted = 1006, Resumed = 1007, Left = 1101, Desync = 1102, Mismatch = 1103, Dropped = 1104,
-                      Restarted = 1105, Stalled = 1106, Refused = 1107, Missing = 1108, CutOff = 1109, Strangers = 1110;
+                      Restarted = 1105, Stalled = 1106, Refused = 1107, Missing = 1108, CutOff = 1109, Strangers = 1110,
+                      TwoMarks = 1111;
+    public const uint ByeLeaves = 1, ByeDesync = 2, ByeError = 3, ByeOwn = 16;
     public const uint PieceAgain = 1, PieceTaken = 2, StateWhole = 3, StateWrong = 4;
 
     [StructLayout(LayoutKind.Sequential)]
@@ -109,6 +112,7 @@ public static unsafe class Fazgrond
         public fixed ulong Numbers[Fazgrond.Machines];
         public ulong Draw;
         public ulong Digest;
+        public ulong Opening;
         public ulong Comers;
         public uint Me;
         public uint Machines;
@@ -132,6 +136,7 @@ public static unsafe class Fazgrond
         public uint DisconnectIn;
         public uint Frame;
         public uint Field;
+        public uint Bye;
     }
 
     [StructLayout(LayoutKind.Sequential)]
@@ -146,6 +151,8 @@ public static unsafe class Fazgrond
         public int FramesBehind;
         public int TheirFramesBehind;
         public uint Refused;
+        public uint Dropped;
+        public uint Restarted;
     }
 
     [StructLayout(LayoutKind.Sequential)]
@@ -191,6 +198,7 @@ public static unsafe class Fazgrond
         public ulong Number;
         public ulong Draw;
         public ulong Digest;
+        public ulong Opening;
         public uint Host;
         public uint Machines;
         public fixed uint Owners[Fazgrond.Players];
@@ -308,8 +316,8 @@ public static unsafe class Fazgrond
                                                                      byte* @out, UIntPtr room, UIntPtr* length);
     [DllImport(Library)] public static extern int fazgrond_peer_send_more(Peer* peer, byte* machine, byte* @out, UIntPtr room,
                                                                           UIntPtr* length);
-    [DllImport(Library)] public static extern int fazgrond_peer_bye(Peer* peer, byte machine, byte* @out, UIntPtr room,
-                                                                    UIntPtr* length);
+    [DllImport(Library)] public static extern int fazgrond_peer_bye(Peer* peer, byte machine, byte why, byte* @out,
+                                                                    UIntPtr room, UIntPtr* length);
     [DllImport(Library)] public static extern int fazgrond_peer_disconnect(Peer* peer, byte machine);
     [DllImport(Library)] public static extern int fazgrond_peer_note_settled(Peer* peer, Session* session, ulong digest);
     [DllImport(Library)] public static extern int fazgrond_peer_event(Peer* peer, Event* @event);
@@ -377,30 +385,54 @@ public static unsafe class Fazgrond
 
     public static Settings fazgrond_settings_for(uint players)
     {
-        var settings = new Settings();
-        settings.Size = (uint)sizeof(Settings);
-        settings.Profile = players <= 4 ? Ggpo : Wide;
-        settings.Players = players;
-        settings.Threshold = players <= 4 ? 8u : 15u;
-        settings.Limit = 1048576;
-        settings.Log = 16777216;
+        var made = new Settings();
+        made.Size = (uint)sizeof(Settings);
+        made.Profile = players <= 4 ? Ggpo : Wide;
+        made.Players = players;
+        made.Threshold = players <= 4 ? 8u : 15u;
+        made.Limit = 1048576u;
+        made.Log = 16777216u;
         for (int at = 0; at < Players; at++)
-            settings.Masks[at] = 0xffffffff;
-        return settings;
+            made.Masks[at] = 0xffffffff;
+        return made;
     }
 
     public static Match fazgrond_match_for(uint machines, uint me)
     {
-        var match = new Match();
-        match.Size = (uint)sizeof(Match);
-        match.Me = me;
-        match.Machines = machines;
-        match.SilentAfter = SilentAfter;
-        match.NotifyAfter = NotifyAfter;
-        match.Words = 1;
+        var made = new Match();
+        made.Size = (uint)sizeof(Match);
+        made.Me = me;
+        made.Machines = machines;
+        made.SilentAfter = SilentAfter;
+        made.NotifyAfter = NotifyAfter;
+        made.Words = 1u;
         for (int at = 0; at < Players; at++)
-            match.Owners[at] = NoPlayer;
-        return match;
+            made.Owners[at] = NoPlayer;
+        return made;
+    }
+
+    public static Epoch fazgrond_epoch_for(Match* match, Settings* settings)
+    {
+        var made = new Epoch();
+        made.Size = (uint)sizeof(Epoch);
+        made.Words = match->Words;
+        made.Threshold = settings->Threshold;
+        made.Machines = match->Machines;
+        for (int at = 0; at < Players; at++)
+        {
+            made.Owners[at] = match->Owners[at];
+            made.Delays[at] = settings->Delays[at];
+        }
+        return made;
+    }
+
+    public static Mark fazgrond_mark_for()
+    {
+        var made = new Mark();
+        made.Size = (uint)sizeof(Mark);
+        for (int at = 0; at < Players; at++)
+            made.Delays[at] = AsBefore;
+        return made;
     }
 
     public static void fazgrond_one_number(Match* match, ulong number)
@@ -409,28 +441,12 @@ public static unsafe class Fazgrond
             match->Numbers[at] = number;
     }
 
-    public static Epoch fazgrond_epoch_for(Match* match, Settings* settings)
+    public static uint fazgrond_epoch_has(Epoch* epoch, uint machine)
     {
-        var epoch = new Epoch();
-        epoch.Size = (uint)sizeof(Epoch);
-        epoch.Words = match->Words;
-        epoch.Threshold = settings->Threshold;
-        epoch.Machines = match->Machines;
         for (int at = 0; at < Players; at++)
-        {
-            epoch.Owners[at] = match->Owners[at];
-            epoch.Delays[at] = settings->Delays[at];
-        }
-        return epoch;
-    }
-
-    public static Mark fazgrond_mark_for()
-    {
-        var mark = new Mark();
-        mark.Size = (uint)sizeof(Mark);
-        for (int at = 0; at < Players; at++)
-            mark.Delays[at] = AsBefore;
-        return mark;
+            if (machine < Machines && epoch->Owners[at] == machine)
+                return 1;
+        return 0;
     }
 
     // Carries out a request, as those that a session leaves; and makes a number of the state in a slot, which is another one for most

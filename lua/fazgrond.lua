@@ -7,13 +7,13 @@
 local ffi = require "ffi"
 local bit = require "bit"
 local declared = require(((...) or ""):gsub("fazgrond$", "") .. "fazgrond_cdef")
-local numbers, answers = declared.numbers, declared.answers
+local numbers, answers, makers = declared.numbers, declared.answers, declared.makers
 
 local OK, TOO_SHORT = numbers.OK, numbers.TOO_SHORT
 local LOCAL_INPUT_MISSING, INPUT_TWICE = numbers.LOCAL_INPUT_MISSING, numbers.INPUT_TWICE
 local LOAD, SAVE, STEP, FREE = numbers.LOAD, numbers.SAVE, numbers.STEP, numbers.FREE
 local JOB_LOAD, JOB_STEP = numbers.JOB_LOAD, numbers.JOB_STEP
-local NO_JOB = numbers.NO_JOB
+local NO_JOB, JOBS_OUT = numbers.NO_JOB, numbers.JOBS_OUT
 local PLAYERS, MACHINES, DATAGRAM = numbers.PLAYERS, numbers.MACHINES, numbers.DATAGRAM
 local ROOM = 16 -- requests that are taken at once
 local MOST_GUESSES = 32
@@ -157,8 +157,8 @@ local function u64(name, value)
 end
 
 -- A digest, which may be one of the bit library's.
-local function digest_of(value)
-    return is_whole(value, -2147483648, -1) and value or u64("digest", value)
+local function digest_of(name, value)
+    return is_whole(value, -2147483648, -1) and value or u64(name, value)
 end
 
 -- A word, as a number without a sign.
@@ -218,14 +218,19 @@ local function place_of(player)
     error(("there is no player %s"):format(tostring(player)), 4)
 end
 
--- Numbers by players. Who has none has another one.
-local function put_by_players(to, name, given, other, take)
-    for player in pairs(given or {}) do
-        place_of(player)
+-- Members of a struct, those that are given of these names.
+local function put(to, given, names, take)
+    for name in names:gmatch "%S+" do
+        if given[name] ~= nil then
+            to[name] = (take or u32)(name, given[name])
+        end
     end
-    for player = 1, PLAYERS do
-        local value = given and given[player]
-        to[player - 1] = value == nil and other or (take or u32)(("%s[%d]"):format(name, player), value)
+end
+
+-- Numbers by players.
+local function put_by_players(to, name, given, take)
+    for player, value in pairs(given or {}) do
+        to[place_of(player)] = (take or u32)(("%s[%d]"):format(name, player), value)
     end
 end
 
@@ -350,19 +355,16 @@ local PROFILES = { ggpo = numbers.GGPO, wide = numbers.WIDE }
 -- Settings as fazgrond_settings_for has them, with what the game says.
 local function settings_of(given)
     check_needed(given, "settings", "players", "locals")
-    local is_wide = u32("players", given.players) > 4
-    local settings = ffi.new "fazgrond_settings"
-    settings.size = ffi.sizeof(settings)
-    settings.profile = PROFILES[given.profile or is_wide and "wide" or "ggpo"] or error("a profile is `ggpo` or `wide`", 3)
-    settings.players = given.players
-    settings.threshold = u32("threshold", given.threshold or is_wide and 15 or 8)
-    settings.limit = u32("limit", given.limit or 1048576)
-    settings.log = u32("log", given.log or 16777216)
+    local settings = makers.settings_for(u32("players", given.players))
+    put(settings, given, "threshold limit log")
+    if given.profile ~= nil then
+        settings.profile = PROFILES[given.profile] or error("a profile is `ggpo` or `wide`", 3)
+    end
     for _, player in ipairs(given.locals) do
         settings["local"] = bit.bor(settings["local"], bit.lshift(1, place_of(player)))
     end
-    put_by_players(settings.delays, "delays", given.delays, 0)
-    put_by_players(settings.masks, "masks", given.masks, 4294967295, word_of)
+    put_by_players(settings.delays, "delays", given.delays)
+    put_by_players(settings.masks, "masks", given.masks, word_of)
     return settings
 end
 
@@ -389,6 +391,7 @@ function fazgrond.session(settings, game)
     session.words = {}
     session.requests = ffi.new("fazgrond_request[?]", ROOM)
     session.epochs = 0 -- how many epochs were over
+    session.jobs = {} -- those that are out
     session.is_whole = true
     return session
 end
@@ -541,6 +544,7 @@ local function job_of(session, code)
         end
         count = tonumber(lib.fazgrond_take_requests(session.handle, requests, ROOM))
     end
+    session.jobs[job] = true
     return job
 end
 
@@ -571,7 +575,7 @@ local function put_states(session, job)
     end
 end
 
--- A job of an epoch before is over, and its slots have other states now.
+-- A job that was given up with its epoch is over, and its slots have other states now.
 local function over(session, job)
     for at, slot in ipairs(job.slots) do
         local state = job.states and job.states[at]
@@ -593,6 +597,7 @@ function Session:graft(job)
         return over(self, job)
     end
     put_states(self, job)
+    self.jobs[job] = nil
     return answered(lib.fazgrond_graft(handle, job.number, number))
 end
 
@@ -605,7 +610,17 @@ function Session:forget(job)
     if job.states then
         put_states(self, job)
     end
+    self.jobs[job] = nil
     return done(lib.fazgrond_forget(handle, job.number))
+end
+
+-- Gives all jobs up that are out, as of an epoch before.
+local function give_up(session)
+    for job in pairs(session.jobs) do
+        job.epoch = nil
+        lib.fazgrond_forget(session.handle, job.number)
+    end
+    session.jobs = {}
 end
 
 -- A frame of a sync test, whose state is saved in a slot: its digest.
@@ -756,7 +771,7 @@ end
 
 -- ---- The network of a match at one of its machines, beside a session. `now` is this machine's clock in milliseconds.
 
-local MATCH = set_of [[me machines owners number numbers draw digest comers silent_after notify_after stalled_after words held_turns
+local MATCH = set_of [[me machines owners number numbers draw digest opening comers silent_after notify_after stalled_after words held_turns
     carries]]
 
 -- The number of a match with a machine: that of `me`, and of those that there aren't, isn't read.
@@ -775,20 +790,15 @@ end
 -- A match as fazgrond_match_for has it, with what the game says.
 local function match_of(given)
     check_needed(given, "matches", "me", "machines", "owners")
-    local match = ffi.new "fazgrond_match"
-    match.size = ffi.sizeof(match)
-    match.me, match.machines = u32("me", given.me), u32("machines", given.machines)
+    local match = makers.match_for(u32("machines", given.machines), u32("me", given.me))
     for machine = 0, MACHINES - 1 do
         match.numbers[machine] = number_with(given, machine)
     end
-    put_by_players(match.owners, "owners", given.owners, numbers.NO_PLAYER)
+    put_by_players(match.owners, "owners", given.owners)
     match.draw = u64("draw", given.draw or fazgrond.random_number())
-    match.digest, match.comers = digest_of(given.digest or 0), u64("comers", given.comers or 0)
-    match.silent_after = u32("silent_after", given.silent_after or numbers.SILENT_AFTER)
-    match.notify_after = u32("notify_after", given.notify_after or numbers.NOTIFY_AFTER)
-    match.stalled_after = u32("stalled_after", given.stalled_after or 0)
-    match.words = u32("words", given.words or 1)
-    match.held_turns = u32("held_turns", given.held_turns or 0)
+    put(match, given, "digest opening", digest_of)
+    put(match, given, "comers", u64)
+    put(match, given, "silent_after notify_after stalled_after words held_turns")
     return match
 end
 
@@ -797,12 +807,11 @@ local EPOCH = set_of [[id base words threshold machines owners delays]]
 -- An epoch as C has it.
 local function epoch_of(given)
     check_needed(given, "epochs", "threshold", "owners")
-    local epoch = ffi.new "fazgrond_epoch"
-    epoch.size = ffi.sizeof(epoch)
-    epoch.id, epoch.base = u64("id", given.id or 0), u64("base", given.base or 0)
-    epoch.words, epoch.threshold = u32("words", given.words or 1), u32("threshold", given.threshold)
-    put_by_players(epoch.owners, "owners", given.owners, numbers.NO_PLAYER)
-    put_by_players(epoch.delays, "delays", given.delays, 0)
+    local epoch = makers.epoch_for(makers.match_for(0, 0), makers.settings_for(0))
+    put(epoch, given, "id base", u64)
+    put(epoch, given, "words threshold machines")
+    put_by_players(epoch.owners, "owners", given.owners)
+    put_by_players(epoch.delays, "delays", given.delays)
     return epoch
 end
 
@@ -815,10 +824,11 @@ local function open_peer(handle, session, match, epoch)
 end
 
 -- Opens the network of a match: `me`, `machines` and `owners` (the machine of each player, player 1's first), `number` (or
--- `numbers`, by machines from 0), and if they are to be others `digest`, `silent_after` (5000), `notify_after` (750),
--- `stalled_after` (0), `words` (1), `held_turns` (0) and `draw` (random bits). With `carries`, in a match of three machines or more, it
--- hands on what two others send each other whose line is broken, and they for it: see `send_more`. With an `epoch` the match goes on in
--- epochs, beginning with this one, and carries: see `fazgrond.epoch`. Who may come to it `comers` says: see `fazgrond.ticket`.
+-- `numbers`, by machines from 0), and if they are to be others `digest`, `opening` (a digest of the opening state, which is compared before
+-- the match begins), `draw` (random bits), `silent_after`, `notify_after`, `stalled_after`, `words` and `held_turns`. With `carries`, in a
+-- match of three machines or more, it hands on what two others send each other whose line is broken, and they for it: see `send_more`.
+-- With an `epoch` the match goes on in epochs, beginning with this one, and carries: see `fazgrond.epoch`. Who may come to it `comers`
+-- says: see `fazgrond.ticket`.
 function fazgrond.peer(session, match, epoch)
     check_options(match, MATCH, "matches")
     if epoch then
@@ -866,9 +876,9 @@ function Peer:send_more()
     return machine_out[0], more
 end
 
--- The datagram that says to a machine that this one leaves. Send it a few times.
-function Peer:bye(machine)
-    return written(lib.fazgrond_peer_bye(open(self), u8(machine), bytes_out, DATAGRAM, size))
+-- The datagram that says to a machine that this one leaves, and why: `numbers.BYE_LEAVES`, if nothing else is said. Send it a few times.
+function Peer:bye(machine, why)
+    return written(lib.fazgrond_peer_bye(open(self), u8(machine), u8(why or numbers.BYE_LEAVES), bytes_out, DATAGRAM, size))
 end
 
 -- Regards a machine as gone, for good.
@@ -888,10 +898,10 @@ function Peer:note_settled(digest)
         session.noted = frame
         digest = session.game:digest(state, slot)
     end
-    return done(lib.fazgrond_peer_note_settled(handle, beside, digest_of(digest)))
+    return done(lib.fazgrond_peer_note_settled(handle, beside, digest_of("digest", digest)))
 end
 
-local OF_EVENT = { "code", "machine", "player", "count", "total", "frames_ahead", "disconnect_in", "frame", "field" }
+local OF_EVENT = { "code", "machine", "player", "count", "total", "frames_ahead", "disconnect_in", "frame", "field", "bye" }
 
 -- What happened, the oldest first: a table with its `name` ("time_sync", say) and all that fazgrond_event has; nil if nothing
 -- did.
@@ -910,7 +920,7 @@ function Peer:events()
     return self.event, self
 end
 
-local OF_STATS = { "sent", "received", "lost", "words_queued", "frames_behind", "their_frames_behind", "refused" }
+local OF_STATS = { "sent", "received", "lost", "words_queued", "frames_behind", "their_frames_behind", "refused", "dropped" }
 
 -- What was counted and measured of a machine. `round_trip` is there once it was measured.
 function Peer:stats(machine)
@@ -920,6 +930,7 @@ function Peer:stats(machine)
     end
     local stats = members_of(stats_out, OF_STATS)
     stats.round_trip = stats_out.is_measured ~= 0 and stats_out.round_trip or nil
+    stats.restarted = stats_out.restarted ~= 0
     return stats
 end
 
@@ -960,19 +971,33 @@ end
 -- ---- A match that goes on in epochs: with other machines, owners or delays. In each turn, after `poll` and before the session is given
 -- words: `go_on`. After `send` to a machine, send it what `send_before` has, too.
 
+local OF_EPOCH = { "id", "base", "words", "threshold", "machines" }
+
 -- The first epoch of a match whose sessions have these settings, for `fazgrond.peer`: `id`, `base`, `words`, `threshold`, `machines`,
 -- `owners` and `delays`. Settings have a delay for the machine's own players alone: put those of the others into `delays`.
 function fazgrond.epoch(match, settings)
     check_options(match, MATCH, "matches")
     check_options(settings, SETTINGS, "settings")
     check_needed(match, "matches", "machines", "owners")
-    local told = settings_of(settings)
-    local epoch = { id = 0, base = 0, words = match.words or 1, threshold = told.threshold, machines = match.machines }
+    local of, told = makers.match_for(u32("machines", match.machines), 0), settings_of(settings)
+    put(of, match, "words")
+    local epoch = members_of(makers.epoch_for(of, told), OF_EPOCH)
     epoch.owners, epoch.delays = {}, {}
     for player = 1, settings.players do
         epoch.owners[player], epoch.delays[player] = match.owners[player], told.delays[player - 1]
     end
     return epoch
+end
+
+-- Whether a machine is in an epoch: it owns a player there. Send to those that are in the one which is played, but for this machine.
+function fazgrond.epoch_has(epoch, machine)
+    u8(machine)
+    for player = 1, PLAYERS do
+        if machine < MACHINES and epoch.owners[player] == machine then
+            return true
+        end
+    end
+    return false
 end
 
 -- How the epoch opened that is played now: a table as that of `fazgrond.epoch`, by which somebody who comes can open it too. `id` and
@@ -983,7 +1008,7 @@ function Peer:epoch()
     if code ~= OK then
         return refused(code)
     end
-    local epoch = members_of(epoch_out, { "id", "base", "words", "threshold", "machines" })
+    local epoch = members_of(epoch_out, OF_EPOCH)
     epoch.owners, epoch.delays = {}, {}
     for at = 0, PLAYERS - 1 do
         if epoch_out.owners[at] ~= numbers.NO_PLAYER then
@@ -1014,10 +1039,10 @@ function Peer:mark(player, given)
     local handle, session = open(self), open(self.session)
     given = given or {}
     check_options(given, MARK, "marks")
-    local mark = ffi.new "fazgrond_mark"
-    mark.size = ffi.sizeof(mark)
-    mark.threshold, mark.ticket = u32("threshold", given.threshold or 0), u64("ticket", given.ticket or 0)
-    put_by_players(mark.delays, "delays", given.delays, numbers.AS_BEFORE)
+    local mark = makers.mark_for()
+    put(mark, given, "threshold")
+    put(mark, given, "ticket", u64)
+    put_by_players(mark.delays, "delays", given.delays)
     for _, comes in ipairs(given.comes or {}) do
         mark.comes[place_of(comes)] = 1
     end
@@ -1025,10 +1050,15 @@ function Peer:mark(player, given)
 end
 
 -- Goes on in the next epoch if this one is over: answers at what frame of it the session is, whose frames begin anew; nil and
--- "nothing" if it isn't over. Jobs of the epoch before are over too: what is grafted of them is refused ("no_job").
+-- "nothing" if it isn't over. Jobs that are out are given up first: what is grafted of them is refused ("no_job").
 function Peer:go_on()
     local session = self.session
-    local code = lib.fazgrond_peer_go_on(open(self), whole(session), number)
+    local peer, handle = open(self), whole(session)
+    local code = lib.fazgrond_peer_go_on(peer, handle, number)
+    if code == JOBS_OUT then
+        give_up(session)
+        code = lib.fazgrond_peer_go_on(peer, handle, number)
+    end
     if code ~= OK then
         return refused(code)
     end
@@ -1039,24 +1069,24 @@ function Peer:go_on()
     return frames
 end
 
--- What is to be sent, after `send`, to a machine that may still be in the epoch before; nil and "nothing" if there is nothing.
+-- What is to be sent, after `send`, to a machine in the epoch before; nil and "nothing" if there is nothing.
 function Peer:send_before(machine, now)
     return written(lib.fazgrond_peer_send_before(open(self), u8(machine), milliseconds(now), bytes_out, DATAGRAM, size))
 end
 
 -- ---- Spectators: a host's end of a viewer's line, and the viewer's.
 
-local LINE = set_of [[number draw digest host machines owners silent_after]]
+local LINE = set_of [[number draw digest opening host machines owners silent_after]]
 
 local function line_settings_of(given)
     check_needed(given, "lines", "number", "host", "machines", "owners")
     local settings = ffi.new "fazgrond_line_settings"
     settings.number = u64("number", given.number)
     settings.draw = u64("draw", given.draw or fazgrond.random_number())
-    settings.digest = digest_of(given.digest or 0)
-    settings.host, settings.machines = u32("host", given.host), u32("machines", given.machines)
-    put_by_players(settings.owners, "owners", given.owners, numbers.NO_PLAYER)
-    settings.silent_after = u32("silent_after", given.silent_after or numbers.SILENT_AFTER)
+    put(settings, given, "digest opening", digest_of)
+    settings.owners, settings.silent_after = makers.match_for(0, 0).owners, numbers.SILENT_AFTER
+    put_by_players(settings.owners, "owners", given.owners)
+    put(settings, given, "host machines silent_after")
     return settings
 end
 
@@ -1297,7 +1327,7 @@ end
 -- A match's digest that has a state in it, beside what another has.
 function fazgrond.state_digest(name, digest)
     need_library()
-    return lib.fazgrond_state_digest(state_name_of(name), digest_of(digest))
+    return lib.fazgrond_state_digest(state_name_of(name), digest_of("digest", digest))
 end
 
 -- The datagram that asks what a state is called, and what the piece says that comes for it.

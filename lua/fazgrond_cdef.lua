@@ -115,6 +115,15 @@ enum {
     FAZGROND_TOO_LONG = 320,
     FAZGROND_NO_MARKS = 321,
     FAZGROND_MARKED = 322,
+    FAZGROND_UNLIKE_DELAYS = 323,
+    FAZGROND_TWO_OWNERS = 324,
+    FAZGROND_TOO_MANY_WORDS = 325,
+    FAZGROND_NO_NUMBER = 326,
+    FAZGROND_GREAT_THRESHOLD = 327,
+    FAZGROND_LONG_DELAY = 328,
+    FAZGROND_OTHERS_DELAY = 329,
+    FAZGROND_WRONG_TICKET = 330,
+    FAZGROND_JOBS_OUT = 331,
 };
 int32_t fazgrond_open(fazgrond_session *session, const fazgrond_settings *settings);
 void fazgrond_close(fazgrond_session *session);
@@ -156,6 +165,7 @@ typedef struct fazgrond_match {
     uint64_t numbers[8];
     uint64_t draw;
     uint64_t digest;
+    uint64_t opening;
     uint64_t comers;
     uint32_t me;
     uint32_t machines;
@@ -184,6 +194,7 @@ enum {
     FAZGROND_MISSING = 1108,
     FAZGROND_CUT_OFF = 1109,
     FAZGROND_STRANGERS = 1110,
+    FAZGROND_TWO_MARKS = 1111,
 };
 typedef struct fazgrond_event {
     uint32_t code;
@@ -195,7 +206,14 @@ typedef struct fazgrond_event {
     uint32_t disconnect_in;
     uint32_t frame;
     uint32_t field;
+    uint32_t bye;
 } fazgrond_event;
+enum {
+    FAZGROND_BYE_LEAVES = 1,
+    FAZGROND_BYE_DESYNC = 2,
+    FAZGROND_BYE_ERROR = 3,
+    FAZGROND_BYE_OWN = 16,
+};
 typedef struct fazgrond_stats {
     uint32_t is_measured;
     uint32_t round_trip;
@@ -206,6 +224,8 @@ typedef struct fazgrond_stats {
     int32_t frames_behind;
     int32_t their_frames_behind;
     uint32_t refused;
+    uint32_t dropped;
+    uint32_t restarted;
 } fazgrond_stats;
 static const int FAZGROND_DATAGRAM = 1200;
 int32_t fazgrond_peer_open(fazgrond_peer *peer, fazgrond_session *session, const fazgrond_match *match);
@@ -216,7 +236,7 @@ int32_t fazgrond_peer_is_running(fazgrond_peer *peer, uint32_t *flag);
 int32_t fazgrond_peer_send(fazgrond_peer *peer, fazgrond_session *session, uint8_t machine, uint32_t now, uint8_t *out, size_t
     room, size_t *length);
 int32_t fazgrond_peer_send_more(fazgrond_peer *peer, uint8_t *machine, uint8_t *out, size_t room, size_t *length);
-int32_t fazgrond_peer_bye(fazgrond_peer *peer, uint8_t machine, uint8_t *out, size_t room, size_t *length);
+int32_t fazgrond_peer_bye(fazgrond_peer *peer, uint8_t machine, uint8_t why, uint8_t *out, size_t room, size_t *length);
 int32_t fazgrond_peer_disconnect(fazgrond_peer *peer, uint8_t machine);
 int32_t fazgrond_peer_note_settled(fazgrond_peer *peer, fazgrond_session *session, uint64_t digest);
 int32_t fazgrond_peer_event(fazgrond_peer *peer, fazgrond_event *event);
@@ -267,6 +287,7 @@ typedef struct fazgrond_line_settings {
     uint64_t number;
     uint64_t draw;
     uint64_t digest;
+    uint64_t opening;
     uint32_t host;
     uint32_t machines;
     uint32_t owners[8];
@@ -372,6 +393,56 @@ uint32_t fazgrond_window_note(fazgrond_window *window, uint64_t number);
 end
 
 return {
+    makers = {
+        settings_for = function(players)
+            local made = ffi.new "fazgrond_settings"
+            made.size = ffi.sizeof(made)
+            made.profile = players <= 4 and 0 or 1
+            made.players = players
+            made.threshold = players <= 4 and 8 or 15
+            made.limit = 1048576
+            made.log = 16777216
+            for at = 0, 7 do
+                made.masks[at] = 4294967295
+            end
+            return made
+        end,
+        match_for = function(machines, me)
+            local made = ffi.new "fazgrond_match"
+            made.size = ffi.sizeof(made)
+            made.me = me
+            made.machines = machines
+            for at = 0, 7 do
+                made.owners[at] = 255
+            end
+            made.silent_after = 5000
+            made.notify_after = 750
+            made.words = 1
+            return made
+        end,
+        epoch_for = function(match, settings)
+            local made = ffi.new "fazgrond_epoch"
+            made.size = ffi.sizeof(made)
+            made.words = match.words
+            made.threshold = settings.threshold
+            made.machines = match.machines
+            for at = 0, 7 do
+                made.owners[at] = match.owners[at]
+            end
+            for at = 0, 7 do
+                made.delays[at] = settings.delays[at]
+            end
+            return made
+        end,
+        mark_for = function()
+            local made = ffi.new "fazgrond_mark"
+            made.size = ffi.sizeof(made)
+            for at = 0, 7 do
+                made.delays[at] = 4294967295
+            end
+            return made
+        end,
+    },
     numbers = {
         VERSION = 512,
         PLAYERS = 8,
@@ -455,6 +526,15 @@ return {
         TOO_LONG = 320,
         NO_MARKS = 321,
         MARKED = 322,
+        UNLIKE_DELAYS = 323,
+        TWO_OWNERS = 324,
+        TOO_MANY_WORDS = 325,
+        NO_NUMBER = 326,
+        GREAT_THRESHOLD = 327,
+        LONG_DELAY = 328,
+        OTHERS_DELAY = 329,
+        WRONG_TICKET = 330,
+        JOBS_OUT = 331,
         SYNCHRONIZING = 1001,
         SYNCHRONIZED = 1002,
         RUNNING = 1003,
@@ -472,6 +552,11 @@ return {
         MISSING = 1108,
         CUT_OFF = 1109,
         STRANGERS = 1110,
+        TWO_MARKS = 1111,
+        BYE_LEAVES = 1,
+        BYE_DESYNC = 2,
+        BYE_ERROR = 3,
+        BYE_OWN = 16,
         PIECE_AGAIN = 1,
         PIECE_TAKEN = 2,
         STATE_WHOLE = 3,
@@ -528,6 +613,15 @@ return {
         [320] = "too_long",
         [321] = "no_marks",
         [322] = "marked",
+        [323] = "unlike_delays",
+        [324] = "two_owners",
+        [325] = "too_many_words",
+        [326] = "no_number",
+        [327] = "great_threshold",
+        [328] = "long_delay",
+        [329] = "others_delay",
+        [330] = "wrong_ticket",
+        [331] = "jobs_out",
     },
     events = {
         [1001] = "synchronizing",
@@ -547,5 +641,6 @@ return {
         [1108] = "missing",
         [1109] = "cut_off",
         [1110] = "strangers",
+        [1111] = "two_marks",
     },
 }

@@ -17,18 +17,28 @@ from pathlib import Path
 
 sys.path.insert(0, str(Path(__file__).resolve().parent / "out/package"))
 import rules  # noqa: E402
-from fazgrond import Event, Happened, Match, Peer, Refused, Session, Settings, text  # noqa: E402
+from fazgrond import Bye, Event, Happened, Match, Peer, Refused, Session, Settings, text  # noqa: E402
+from fazgrond.numbers import SILENT_AFTER  # noqa: E402
 
 TURN, PAST_LAST, BYES = 1000 / 60, 32, 3
 Address = tuple[str, int]
 
 
-def digest_of(game: str, players: int, input_bytes: int) -> int:
-    """What all machines of a match have alike, as c/ggponet has it."""
+def hash_of(words: str) -> int:
     total = 0xCBF29CE484222325
-    for byte in f"{game} ggponet 1 players {players} input {input_bytes}".encode():
+    for byte in words.encode():
         total = (total ^ byte) * 0x100000001B3 & (1 << 64) - 1
     return total
+
+
+def digest_of(game: str, players: int, input_bytes: int) -> int:
+    """What all machines of a match have alike, as c/ggponet has it."""
+    return hash_of(f"{game} ggponet 1 players {players} input {input_bytes}")
+
+
+def number_of(game: str) -> int:
+    """The number of a match of which nothing is said, as c/ggponet has it."""
+    return hash_of(f"{game} ggponet 1 match") | 1
 
 
 class Line:
@@ -89,12 +99,13 @@ class Play:
         digest = digest_of("duel", count, 4)
         self.session = Session(Settings(count, self.local, 8, delays={player: options.delay for player in self.local}), self.game)
         self.peer = Peer(self.session, Match(me, len(places), [places.index(it) for it in options.players],
-                                             options.match or digest, digest, silent_after=options.timeout,
-                                             carries=True))
+                                             options.match or number_of("duel"), digest, silent_after=options.timeout,
+                                             carries=True, opening=rules.checksum(self.game.field)))
         self.wait = self.again = 0
         self.noted = -1
         self.told: dict[str, str] = {}
         self.is_over = False  # the match can't go on
+        self.why = Bye.BYE_LEAVES
 
     def turn(self, words: list[int], now: float) -> None:
         """A turn of the main loop; a bot's words are its own."""
@@ -146,6 +157,7 @@ class Play:
             who = f"player {event.player}" if event.player else f"machine {event.machine}"
             self.told[who] = f"{who}: {text(event.code)}"
             print(self.told[who], file=sys.stderr)
+        self.why = Bye.BYE_DESYNC if event.code == Happened.DESYNC else self.why
         self.is_over |= event.code in (Happened.DESYNC, Happened.MISMATCH, Happened.DROPPED, Happened.MISSING)
 
     @property
@@ -157,7 +169,7 @@ class Play:
     def close(self) -> None:
         """Says goodbye, and closes the match."""
         for machine, address in enumerate(self.machines):
-            datagram = self.peer.bye(machine) if address else None
+            datagram = self.peer.bye(machine, self.why) if address else None
             if address and datagram:
                 for _ in range(BYES):
                     self.line.send_now(datagram, address)
@@ -256,7 +268,7 @@ def options_of() -> argparse.Namespace:
             "match": "the number that the machines of this match know", "lag": "milliseconds by which what is sent comes late",
             "loss": "percent of it that are lost", "junk": "percent of it that come changed too",
             "speed": "how many times as fast"}
-    defaults = {"delay": 1, "timeout": 5000, "speed": 1}
+    defaults = {"delay": 1, "timeout": SILENT_AFTER, "speed": 1}
     for name, said in told.items():
         reader.add_argument(f"--{name}", type=int, default=defaults.get(name, 0), help=said)
     reader.add_argument("--headless", action="store_true", help="no window; ships stay where they are without --bot")

@@ -60,6 +60,8 @@ public static unsafe class Epochs
         match.Draw = 70ul + me;
         match.Comers = Comers;
         var epoch = fazgrond_epoch_for(&match, &settings);
+        for (uint at = 0; at < 256; at++)
+            Is("whether the epoch has machine " + at, fazgrond_epoch_has(&epoch, at), at < 2 ? 1u : 0u);
         Must(fazgrond_peer_open_lasting(machine.Peer, machine.Session, &match, &epoch));
         for (int turn = 0; turn < lag; turn++)
             machine.Coming.Enqueue(new List<byte[]>());
@@ -91,13 +93,17 @@ public static unsafe class Epochs
         machine.Bases.Add(epoch.Base);
     }
 
-    // A mark of turn 60 is void, since its tag isn't that of its name. Nobody gets a player by that of turn 120, for none is free.
+    // That of turn 60 isn't put, since its tag isn't that of its name. Nobody gets a player by that of turn 120, for none is free.
     static void Marks(Machine machine, uint turn)
     {
         var mark = fazgrond_mark_for();
         mark.Comes[1] = turn == 60 || turn == 120 ? 1u : 0u;
         mark.Ticket = turn == 60 ? Ticket - 1 : Ticket;
-        Must(fazgrond_peer_mark(machine.Peer, machine.Session, (byte)(machine.Me + 1), &mark));
+        int code = fazgrond_peer_mark(machine.Peer, machine.Session, (byte)(machine.Me + 1), &mark);
+        if (turn == 60)
+            Is("the answer to a mark with a wrong ticket", code, WrongTicket);
+        else
+            Must(code);
     }
 
     static void Plays(Machine machine, uint turn)

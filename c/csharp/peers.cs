@@ -54,8 +54,6 @@ public static unsafe class Peers
             match.Owners[at] = (uint)at / 2;
         match.Draw = 7ul + me;
         match.Digest = 5;
-        Is("the time of silence", match.SilentAfter, 5000);
-        Is("the time after which it is told", match.NotifyAfter, 750);
         match.Words = 2;
         Must(fazgrond_peer_open(machine.Peer, machine.Session, &match));
         return machine;

@@ -44,7 +44,7 @@ end
 
 local SAID = {
     synchronizing = ": there", synchronized = ": ready", left = " has left", interrupted = " is silent",
-    resumed = " is heard again", restarted = " was begun anew", stalled = " gives no words", refused = " sends what is refused",
+    resumed = " is heard again", restarted = " was begun anew", stalled = " holds up the match", refused = " sends what is refused",
 }
 
 local function say(event)

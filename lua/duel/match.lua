@@ -7,13 +7,22 @@ local PAST_LAST = 32 -- frames after the last one, so that the others have all o
 local BYES = 3
 local OVER = { desync = true, mismatch = true, dropped = true, missing = true }
 
--- What all machines of a match have alike, as c/ggponet has it: so this game and the program c/out/duel can play together.
-local function digest_of(players)
+local function hash_of(words)
     local hash = 0xcbf29ce484222325ULL
-    for letter in ("duel ggponet 1 players %d input 4"):format(players):gmatch "." do
+    for letter in words:gmatch "." do
         hash = bit.bxor(hash, letter:byte()) * 0x100000001b3ULL
     end
     return hash
+end
+
+-- What all machines of a match have alike, as c/ggponet has it: so this game and the program c/out/duel can play together.
+local function digest_of(players)
+    return hash_of(("duel ggponet 1 players %d input 4"):format(players))
+end
+
+-- The number of a match of which nothing is said, as c/ggponet has it.
+local function number_of_none()
+    return bit.bor(hash_of "duel ggponet 1 match", 1ULL)
 end
 
 -- The game, as a session plays it. Its state knows its frame, and the state at the frame `last` is noted.
@@ -68,8 +77,8 @@ function Match.new(options, line, word_of, told)
     local peer
     peer, why = fazgrond.peer(session, {
         me = me, machines = options.count, owners = options.owners, digest = digest,
-        number = options.match > 0 and options.match or digest, silent_after = options.timeout,
-        carries = true,
+        number = options.match > 0 and options.match or number_of_none(), silent_after = options.timeout,
+        carries = true, opening = rules.checksum(game.field),
     })
     if not peer then
         return nil, why
@@ -106,6 +115,7 @@ function Match:react(event)
         self.wait = event.frames_ahead
     elseif OVER[event.name] then
         self.is_over = true
+        self.has_desync = self.has_desync or event.name == "desync"
     end
     self.told(event)
 end
@@ -137,8 +147,9 @@ end
 
 -- Says goodbye, and closes the match.
 function Match:close()
+    local why = self.has_desync and fazgrond.numbers.BYE_DESYNC or fazgrond.numbers.BYE_LEAVES
     for machine = 0, self.machines - 1 do
-        local bytes = self.peer:bye(machine)
+        local bytes = self.peer:bye(machine, why)
         for _ = 1, bytes and BYES or 0 do
             self.line:send_now(machine, bytes)
         end

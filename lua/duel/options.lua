@@ -1,4 +1,5 @@
 -- The command line of the duel, as c/out/duel has it.
+local fazgrond = require "fazgrond"
 local options = {}
 
 options.usage = [=[
@@ -14,7 +15,7 @@ love lua/duel [OPTIONS] PORT PLAYER PLAYER [PLAYER [PLAYER]]    a duel of ships 
   --speed N     a clock that runs N times as fast
 ]=]
 
-local NUMBERS = { bot = 0, frames = 0, delay = 1, timeout = 5000, match = 0, lag = 0, loss = 0, speed = 1 }
+local NUMBERS = { bot = 0, frames = 0, delay = 1, timeout = fazgrond.numbers.SILENT_AFTER, match = 0, lag = 0, loss = 0, speed = 1 }
 
 local function whole_number(word)
     return word and word:match "^%d+$" and tonumber(word)

@@ -42,6 +42,8 @@ local function new_machine(me)
     local peer = assert(fazgrond.peer(session, match, epoch))
     is(stayed(peer), "")
     is(peer:has_stayed(me), false)
+    is(fazgrond.epoch_has(epoch, me) and fazgrond.epoch_has(epoch, 1 - me), true)
+    is(fazgrond.epoch_has(epoch, 2) or fazgrond.epoch_has(epoch, 254) or fazgrond.epoch_has(epoch, 255), false)
     local line, viewer = assert(fazgrond.line(session, line_of(me, 21))), assert(fazgrond.viewer(line_of(me, 22)))
     is(select(2, line:send_before(peer, 0)), "nothing")
     return {
@@ -94,7 +96,7 @@ end
 is(fazgrond.ticket(COMERS, 0), 0xadfa742300000000ULL)
 is(fazgrond.ticket(COMERS, 4294967295), 0x6994a5ddffffffffULL)
 
--- The second mark is void, since its tag isn't that of its name. Nobody gets a player by the third one, for none is free.
+-- The second mark isn't put, since its tag isn't that of its name. Nobody gets a player by the third one, for none is free.
 local MARKS = {
     [40] = { 0 },
     [80] = { 1, { threshold = 7, ticket = TICKET - 1, comes = { 1 } } },
@@ -105,8 +107,12 @@ is(MARKS[120][2].ticket, TICKET)
 local function mark(self, turn)
     local due = MARKS[turn]
     if due and due[1] == self.me then
-        is(self.peer:mark(self.me + 1, due[2]), true)
-        is(select(2, self.peer:mark(self.me + 1)), "marked")
+        if self.me == 1 then
+            is(select(2, self.peer:mark(self.me + 1, due[2])), "wrong_ticket")
+        else
+            is(self.peer:mark(self.me + 1, due[2]), true)
+            is(select(2, self.peer:mark(self.me + 1)), "marked")
+        end
         is(select(2, self.peer:mark(2 - self.me)), "invalid_player")
     end
 end

@@ -86,13 +86,13 @@ is(plain[2].told.desync, nil)
 plain[1].session.game.digest = function(_, state)
     return state + 1
 end
-is(play(plain, 8, { 5, 6 })[2].told.desync.machine, 0)
+is(play(plain, 140, { 5, 6 })[2].told.desync.machine, 0)
 
 -- Numbers: the same one, one for each two machines, or others.
 local shared = 0x1122334455667788ULL
 local paired = play(pair({ numbers = { [0] = 1, [1] = shared } }, { numbers = { [0] = shared, [1] = 3 } }), 30, { 5, 6 })
 is(paired[1].told.running ~= nil, true)
-is(next(play(pair({ numbers = { [1] = shared } }, { number = 0 }), 30)[1].told), nil)
+is(next(play(pair({ numbers = { [1] = shared } }, { number = 5 }), 30)[1].told), nil)
 is(next(play(pair({ number = 7 }, { number = 8 }), 30, { 5, 6 })[1].told), nil)
 is(next(play(pair({ number = 7 }, { number = 0x100000007ULL }), 30)[1].told), nil)
 
@@ -100,6 +100,8 @@ is(next(play(pair({ number = 7 }, { number = 0x100000007ULL }), 30)[1].told), ni
 local differing = play(pair({ digest = 1 }, { digest = 2 ^ 40 + 1 }), 30)
 is(differing[1].told.mismatch.field .. differing[2].told.mismatch.field, "33")
 is(differing[1].told.mismatch.machine, 1)
+differing = play(pair({ opening = 1 }, { opening = 2 ^ 40 + 1 }), 30)
+is(differing[1].told.mismatch.field .. differing[2].told.mismatch.field, "66")
 
 -- Two words of a player leave together, and come together.
 local wide = { words = 2, owners = { 0, 0, 1, 1 } }

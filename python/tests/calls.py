@@ -17,6 +17,7 @@ from fazgrond import (
     Piece, Refused, RemoteWord, Row, Session, Settings, StateName, Taker, Viewer, Window, state_ask, state_sender, state_told, sync_test,
     text, ticket, version,
 )
+from fazgrond._raw import ffi
 from fazgrond.numbers import VERSION
 
 ROOT = Path(__file__).resolve().parent.parent.parent
@@ -185,10 +186,19 @@ def what_can_not_be_taken_is_said_by_its_name():
     assert "'silentafter'" in said_by(lambda: Match(0, 2, [0, 1], 7, silentafter=500)) and "'number'" in said_by(lambda: Match(0, 2, [0, 1]))
 
 
+def members(kind, raw):
+    """A struct of C as c/makers.c prints it."""
+    lists = [(name, getattr(raw, name)) for name, _ in ffi.typeof(raw).item.fields]
+    return " ".join([kind, *[f"{name} {it}" if isinstance(it, int) else f"{name} {' '.join(map(str, it))}" for name, it in lists]])
+
+
 @test
-def times_of_which_nothing_is_said():
-    of, line = Match(0, 2, [0, 1], 7), LineSettings(8, 0, 2, [0, 1])
-    assert (of.silent_after, of.notify_after, of.stalled_after, line.silent_after) == (5000, 750, 0, 5000)
+def what_is_not_said_is_as_in_c():
+    two, five, of = Settings(2, [2]), Settings(5, [2, 5]), Match(1, 2, [0, 1], 7, draw=5)
+    made = [("settings", two), ("settings", five), ("match", of), ("epoch", Epoch.first(of, two)), ("mark", Mark())]
+    due = (ROOT / "c/makers.stdout").read_text()
+    assert [members(kind, it._raw()) for kind, it in made] == due.splitlines()
+    assert LineSettings(8, 0, 2, [0, 1]).silent_after == of.silent_after
 
 
 @test
@@ -358,6 +368,8 @@ def what_nobody_has_any_more_is_closed():
     with session_of() as session:
         refused(Answer.INVALID_REQUEST, Peer, session, Match(0, 2, [0, 1], 7, draw=0))
         refused(Answer.INVALID_MACHINE, Peer, session, Match(2, 2, [0, 1], 7))
+        refused(Answer.NO_NUMBER, Peer, session, Match(0, 2, [0, 1], 0))
+        refused(Answer.TWO_OWNERS, Peer, session, Match(0, 2, [0, 1], 7, words=2))
         raises(ValueError, Peer, session, Match(0, 2, [0] * 9, 7))
         raises(ValueError, Peer, session, Match(0, 2, [0, 1], [7] * 9))
     gc.collect()
@@ -695,6 +707,11 @@ def machines_that_do_not_fit():
     told = [(event.code, event.machine, event.field) for event in one[1].events()]
     assert (Happened.MISMATCH, 1, 3) in told and not one[1].is_running
     close(one, two)
+    one, two = machine(0, opening=1), machine(1, opening=2)
+    meet(one, two)
+    told = [(event.code, event.machine, event.field) for event in one[1].events()]
+    assert (Happened.MISMATCH, 1, 6) in told and not one[1].is_running
+    close(one, two)
     one, two = machine(0), machine(1)
     meet(one, two)
     one[0].remote_input(2, 0, 5)  # past the peer
@@ -840,6 +857,7 @@ def lasting(me, game=Sum, comers=COMERS):
     assert epoch == Epoch([0, 1], [0, 0], 8, 1, 0, 0, 2)
     peer = Peer(session, of, epoch)
     assert peer.epoch() == epoch and stayed(peer) == []
+    assert [machine for machine in range(256) if epoch.has(machine)] == [0, 1]
     return session, peer, [epoch]
 
 
@@ -848,14 +866,17 @@ def stayed(peer):
     return [machine for machine in range(256) if peer.has_stayed(machine)]
 
 
-# The second one is void, since its tag isn't that of its name. Nobody gets a player by the third one, for none is free.
+# The second one isn't put, since its tag isn't that of its name. Nobody gets a player by the third one, for none is free.
 MARKS = {40: (0, None), 80: (1, Mark(threshold=7, comes=[1], ticket=ticket_of(3) ^ 1)),
          120: (0, Mark(threshold=6, delays={1: 0}, comes=[2], ticket=ticket_of(3)))}
 
 
 def marks(peer, me, mark):
-    peer.mark(me + 1, mark)
-    refused(Answer.MARKED, peer.mark, me + 1)
+    if me == 1:
+        refused(Answer.WRONG_TICKET, peer.mark, me + 1, mark)
+    else:
+        peer.mark(me + 1, mark)
+        refused(Answer.MARKED, peer.mark, me + 1)
     refused(Answer.INVALID_PLAYER, peer.mark, 2 - me)
 
 
@@ -911,11 +932,11 @@ def who_may_come():
     """Tickets are as the pages have them. Matches of other comers are others, and so is one that doesn't go on."""
     for name in [0, 3, 0xFFFFFFFF]:
         assert ticket(COMERS, name) == ticket_of(name)
-    for other in [lasting(1, comers=COMERS + 1)[:2], machine(1)]:
+    for field, other in [(3, lasting(1, comers=COMERS + 1)[:2]), (5, machine(1))]:
         one = lasting(0)[:2]
         meet(one, other)
         for me, (_, peer) in enumerate([one, other]):
-            assert (Happened.MISMATCH, 1 - me, 3) in [(it.code, it.machine, it.field) for it in peer.events()]
+            assert (Happened.MISMATCH, 1 - me, field) in [(it.code, it.machine, it.field) for it in peer.events()]
         close(one, other)
 
 

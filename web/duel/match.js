@@ -1,5 +1,5 @@
 // A match of the duel over any channel for datagrams: without a page, a socket or a clock of its own.
-import { Answer, Code } from "./fazgrond/fazgrond.js";
+import { Answer, Code, raw } from "./fazgrond/fazgrond.js";
 import { Duel, text } from "./rules.js";
 
 const PAST_LAST = 32; // frames after the last one, so that the other has all of it too
@@ -82,12 +82,13 @@ class Counted extends Duel {
  */
 export class Match {
   constructor(library, how) {
-    const { number, me, channel, word, taken = () => {}, told = () => {}, delay = 1, frames = 0, lag = 0, loss = 0, timeout = 5000 } = how;
+    const { number, me, channel, word, taken = () => {}, told = () => {}, delay = 1, frames = 0, lag = 0, loss = 0 } = how;
     this.game = new Counted(2, frames);
     const delays = me === 0 ? [delay, 0] : [0, delay];
     this.session = library.session({ players: 2, local: [me + 1], delays }, this.game);
     this.peer = library.peer(this.session, {
-      me, machines: 2, owners: [0, 1], number, digest: digestOf("duel", 2, 4), silentAfter: timeout,
+      me, machines: 2, owners: [0, 1], number, digest: digestOf("duel", 2, 4), silentAfter: how.timeout,
+      opening: this.game.digest(this.game.save()),
     });
     Object.assign(this, { library, me, other: 1 - me, channel, word, taken, told, frames, wait: 0, again: 0 });
     this.line = new BadLine(channel, { lag, loss });
@@ -147,7 +148,7 @@ export class Match {
     if (this.isClosed) return;
     this.isClosed = this.isOver = true;
     for (let at = 0; at < BYES; at++) {
-      const bytes = this.peer.bye(this.other);
+      const bytes = this.peer.bye(this.other, this.ending === null ? raw.BYE_LEAVES : raw.BYE_DESYNC);
       if (bytes !== null) this.line.sendNow(bytes);
     }
     this.peer.close();

@@ -3,7 +3,7 @@
 // Behind the address, for trials: `?bot=5` flies the ship, `frames=1800` ends the match there and shows the state, `delay=2`,
 // `lag=50`, `loss=10`, `timeout=5000` and `speed=4` are as those of c/out/duel. `?broker=URL&host` hosts at once, and
 // `?broker=URL&join=CODE` joins; `name=Anna`, `long` and `relay` are what the fields say.
-import { Code, Fazgrond } from "./fazgrond/fazgrond.js";
+import { Code, Fazgrond, raw } from "./fazgrond/fazgrond.js";
 import { Lobby, Why } from "./fazgrond/lobby.js";
 import { Match, eachTurn } from "./match.js";
 import { Meeting, serversOf } from "./meet.js";
@@ -121,7 +121,7 @@ function begin(me, channel) {
   let now = 0;
   match = new Match(library, {
     number: BigInt(meeting.number), me, channel, word, taken, delay: number("delay", 1), frames: number("frames", 0),
-    lag: number("lag", 0), loss: number("loss", 0), timeout: number("timeout", 5000),
+    lag: number("lag", 0), loss: number("loss", 0), timeout: number("timeout", raw.SILENT_AFTER),
     told: (event) => hear(event, now),
   });
   show("meet", false);

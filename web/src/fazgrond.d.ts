@@ -45,8 +45,10 @@ export interface MatchSettings {
   numbers?: bigint[];
   /** Drawn anew for each opening, if it isn't said. */
   draw?: bigint | number;
-  /** Of all else that has to be alike at all machines. */
+  /** Of all else that has to be alike at all machines, but for the opening state. */
   digest?: bigint;
+  /** A digest of the opening state, which is compared before the match begins. 0n, if it isn't said. */
+  opening?: bigint;
   /** Who may come to a match that goes on: see `ticket`. 0, if it isn't said: anybody whom a mark has come. */
   comers?: bigint;
   /** Milliseconds: 5000, 750 and 0, if it isn't said. */
@@ -94,6 +96,7 @@ export interface LineSettings {
   number: bigint;
   draw?: bigint | number;
   digest?: bigint;
+  opening?: bigint;
   host: number;
   machines: number;
   owners: number[];
@@ -123,6 +126,7 @@ export class Fazgrond {
   session<State>(settings: SessionSettings, game: Game<State>): Session<State>;
   peer(session: Session<any>, match: MatchSettings, epoch?: Epoch): Peer;
   epoch(match: MatchSettings, settings: SessionSettings): Epoch;
+  epochHas(epoch: Epoch, machine: number): boolean;
   ticket(comers: bigint, name: number): bigint;
   line(session: Session<any>, settings: LineSettings): Line;
   viewer(settings: LineSettings): Viewer;
@@ -191,7 +195,7 @@ export class Peer extends Handle {
   get isRunning(): boolean;
   send(machine: number, now: number): Uint8Array | null;
   sendMore(): { machine: number; bytes: Uint8Array } | null;
-  bye(machine: number): Uint8Array | null;
+  bye(machine: number, why?: number): Uint8Array | null;
   disconnect(machine: number): number;
   noteSettled(): number;
   event(): raw.Event | null;

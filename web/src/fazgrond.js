@@ -61,11 +61,17 @@ function listOf(name, list, most = U32, least = 0) {
   return Array.from(list, (one, at) => whole(`${name}[${at}]`, one, most, least));
 }
 
-/** What each place of a list has; where there is nothing, a value of its own. */
-function placesOf(name, list, count, missing, most = U32) {
-  if (list?.length > count) throw new RangeError(`\`${name}\` has ${list.length} places: ${count} are the most`);
-  const found = listOf(name, Array.isArray(list) ? Array.from(list, (one) => one ?? missing) : (list ?? []), most);
-  return Array.from({ length: count }, (_, at) => found[at] ?? missing);
+/** What each place of a list has; where there is nothing, what there was. */
+function placesOf(name, list, made, most = U32) {
+  if (list?.length > made.length) throw new RangeError(`\`${name}\` has ${list.length} places: ${made.length} are the most`);
+  const found = listOf(name, Array.isArray(list) ? Array.from(list, (one, at) => one ?? made[at]) : (list ?? []), most);
+  return made.map((one, at) => found[at] ?? one);
+}
+
+/** Those of some members that are given. */
+function said(given, names, take = whole) {
+  const found = names.filter((name) => (given[name] ?? null) !== null);
+  return Object.fromEntries(found.map((name) => [name, take(name, given[name])]));
 }
 
 /** Milliseconds of a clock, as 32 bits. */
@@ -140,10 +146,14 @@ export class Fazgrond {
 
   /** The first epoch of a match whose sessions have these settings. Put the delays of other machines' players into it. */
   epoch(match, settings) {
-    const { threshold, delays } = settingsOf(settings);
-    const { owners, machines, words } = matchOf(match);
+    const { id, base, words, threshold, machines, owners, delays } = raw.epochFor(matchOf(match), settingsOf(settings));
     const players = owners.filter((owner) => owner !== raw.NO_PLAYER).length;
-    return { id: 0n, base: 0n, words, threshold, machines, owners: owners.slice(0, players), delays: delays.slice(0, players) };
+    return { id, base, words, threshold, machines, owners: owners.slice(0, players), delays: delays.slice(0, players) };
+  }
+
+  /** Whether a machine is in an epoch: it owns a player there. Send to those that are in the one which is played, but for this machine. */
+  epochHas(epoch, machine) {
+    return whole("machine", machine, U8) < raw.MACHINES && epoch.owners.includes(machine);
   }
 
   /** The ticket by which somebody comes to a match with these `comers`, under a name of 32 bits. */
@@ -310,18 +320,14 @@ const SETTINGS = ["players", "local", "threshold", "profile", "limit", "log", "d
 /** Settings as `fazgrond_settings_for` has them, with what the game says. */
 function settingsOf(given) {
   checkNames("settings", given, SETTINGS, ["players", "local"]);
-  const wide = given.players > 4;
   const local = listOf("local", given.local, raw.PLAYERS, 1);
+  const made = raw.settingsFor(whole("players", given.players));
   return {
-    size: raw.Settings.size,
-    profile: whole("profile", given.profile ?? (wide ? raw.WIDE : raw.GGPO)),
-    players: whole("players", given.players),
+    ...made,
+    ...said(given, ["threshold", "profile", "limit", "log"]),
     local: local.reduce((bits, player) => bits | (1 << (player - 1)), 0),
-    threshold: whole("threshold", given.threshold ?? (wide ? 15 : 8)),
-    limit: whole("limit", given.limit ?? 1048576),
-    log: whole("log", given.log ?? 16777216),
-    delays: placesOf("delays", given.delays, raw.PLAYERS, 0),
-    masks: placesOf("masks", given.masks, raw.PLAYERS, U32),
+    delays: placesOf("delays", given.delays, made.delays),
+    masks: placesOf("masks", given.masks, made.masks),
   };
 }
 
@@ -345,6 +351,8 @@ export class Session extends Handle {
     this.noted = -1;
     /** How many epochs of its match are over. */
     this.epochs = 0;
+    /** The jobs that are out. */
+    this.jobs = new Set();
   }
 
   close() {
@@ -449,6 +457,7 @@ export class Session extends Handle {
     const job = new Job(this.library.number(), this.epochs);
     for (let count = this.take(); count > 0; count = this.take())
       for (let at = 0; at < count; at++) this.addToJob(job, this.library.u32(), placeOf(this.library, at));
+    this.jobs.add(job);
     return job;
   }
 
@@ -464,6 +473,7 @@ export class Session extends Handle {
     if (job.states.length !== job.slots.length) throw new Error("the job has not been carried out");
     if (job.epoch !== this.epochs) return this.over(job);
     this.putStates(job);
+    this.jobs.delete(job);
     return this.library.calls.graft(this.open, job.number, this.library.room);
   }
 
@@ -471,14 +481,24 @@ export class Session extends Handle {
   forget(job) {
     if (job.epoch !== this.epochs) return this.over(job);
     this.putStates(job);
+    this.jobs.delete(job);
     return this.library.calls.forget(this.open, job.number);
   }
 
-  /** A job of an epoch before is over, and its slots have other states now. */
+  /** A job that was given up with its epoch is over, and its slots have other states now. */
   over(job) {
     for (const state of job.states) this.game.free?.(state);
     [job.states, job.slots] = [[], []];
     return Answer.NO_JOB;
+  }
+
+  /** Gives all jobs up that are out, as of an epoch before. */
+  giveUp() {
+    for (const job of this.jobs) {
+      job.epoch = -1;
+      this.library.calls.forget(this.open, job.number);
+    }
+    this.jobs.clear();
   }
 
   /** Goes on in the next epoch, if a peer answers that it has begun: its frames begin anew, and so many were run. */
@@ -686,8 +706,8 @@ class Sealed extends Handle {
   }
 }
 
-const MATCH = ["me", "machines", "owners", "number", "numbers", "draw", "digest", "comers", "silentAfter", "notifyAfter", "stalledAfter",
-  "words", "heldTurns", "carries"];
+const MATCH = ["me", "machines", "owners", "number", "numbers", "draw", "digest", "opening", "comers", "silentAfter", "notifyAfter",
+  "stalledAfter", "words", "heldTurns", "carries"];
 
 /** The number that a match has with each machine. */
 function numbersOf({ me, machines, number, numbers }) {
@@ -703,20 +723,14 @@ function numbersOf({ me, machines, number, numbers }) {
 /** A match as `fazgrond_match_for` has it, with what the game says. */
 function matchOf(given) {
   checkNames("matches", given, MATCH, ["me", "machines", "owners"]);
+  const made = raw.matchFor(whole("machines", given.machines), whole("me", given.me));
   return {
-    size: raw.Match.size,
+    ...made,
     numbers: numbersOf(given),
     draw: whole64("draw", given.draw ?? randomNumber()),
-    digest: whole64("digest", given.digest ?? 0n),
-    comers: whole64("comers", given.comers ?? 0n),
-    me: whole("me", given.me),
-    machines: whole("machines", given.machines),
-    owners: placesOf("owners", given.owners, raw.PLAYERS, raw.NO_PLAYER),
-    silentAfter: whole("silentAfter", given.silentAfter ?? raw.SILENT_AFTER),
-    notifyAfter: whole("notifyAfter", given.notifyAfter ?? raw.NOTIFY_AFTER),
-    stalledAfter: whole("stalledAfter", given.stalledAfter ?? 0),
-    words: whole("words", given.words ?? 1),
-    heldTurns: whole("heldTurns", given.heldTurns ?? 0),
+    ...said(given, ["digest", "opening", "comers"], whole64),
+    owners: placesOf("owners", given.owners, made.owners),
+    ...said(given, ["silentAfter", "notifyAfter", "stalledAfter", "words", "heldTurns"]),
   };
 }
 
@@ -724,15 +738,13 @@ const EPOCH = ["id", "base", "words", "threshold", "machines", "owners", "delays
 
 function epochOf(given) {
   checkNames("epochs", given, EPOCH, ["threshold", "owners"]);
+  const made = raw.epochFor(raw.matchFor(0, 0), raw.settingsFor(0));
   return {
-    size: raw.Epoch.size,
-    words: whole("words", given.words ?? 1),
-    threshold: whole("threshold", given.threshold),
-    machines: whole("machines", given.machines ?? 0),
-    id: whole64("id", given.id ?? 0n),
-    base: whole64("base", given.base ?? 0n),
-    owners: placesOf("owners", given.owners, raw.PLAYERS, raw.NO_PLAYER),
-    delays: placesOf("delays", given.delays, raw.PLAYERS, 0),
+    ...made,
+    ...said(given, ["words", "threshold", "machines"]),
+    ...said(given, ["id", "base"], whole64),
+    owners: placesOf("owners", given.owners, made.owners),
+    delays: placesOf("delays", given.delays, made.delays),
   };
 }
 
@@ -741,12 +753,13 @@ const MARK = ["threshold", "delays", "comes", "ticket"];
 function markOf(given) {
   checkNames("marks", given, MARK, []);
   const comes = listOf("comes", given.comes ?? [], raw.PLAYERS, 1);
+  const made = raw.markFor();
   return {
-    size: raw.Mark.size,
-    threshold: whole("threshold", given.threshold ?? 0),
-    ticket: whole64("ticket", given.ticket ?? 0n),
-    comes: Array.from({ length: raw.PLAYERS }, (_, at) => (comes.includes(at + 1) ? 1 : 0)),
-    delays: placesOf("delays", given.delays, raw.PLAYERS, raw.AS_BEFORE),
+    ...made,
+    ...said(given, ["threshold"]),
+    ...said(given, ["ticket"], whole64),
+    comes: made.comes.map((none, at) => (comes.includes(at + 1) ? 1 : none)),
+    delays: placesOf("delays", given.delays, made.delays),
   };
 }
 
@@ -796,10 +809,11 @@ export class Peer extends Sealed {
     return more && { machine: this.library.u8()[machine], bytes: more };
   }
 
-  /** The datagram that says to a machine that this one leaves, or null. Send it a few times. */
-  bye(machine) {
+  /** The datagram that says to a machine that this one leaves, and why, or null. Send it a few times. */
+  bye(machine, why = raw.BYE_LEAVES) {
     const { calls, bytes, room } = this.library;
-    return this.written(calls.peer_bye(this.open, whole("machine", machine, U8), bytes, raw.DATAGRAM, room));
+    const [to, said] = [whole("machine", machine, U8), whole("why", why, U8)];
+    return this.written(calls.peer_bye(this.open, to, said, bytes, raw.DATAGRAM, room));
   }
 
   /** Regards a machine as gone, for good. */
@@ -884,20 +898,28 @@ export class Peer extends Sealed {
     return library.calls.peer_mark(this.open, this.session.open, whole("player", player, U8), library.room);
   }
 
-  /** Goes on in the next epoch if this one is over; else the answer is `NOTHING`. The session's `reached` says at what frame it is. */
+  /**
+   * Goes on in the next epoch if this one is over; else the answer is `NOTHING`. The session's `reached` says at what frame it is. Jobs that
+   * are out are given up first.
+   */
   goOn() {
-    const code = this.library.calls.peer_go_on(this.open, this.session.open, this.library.room);
+    const goOn = () => this.library.calls.peer_go_on(this.open, this.session.open, this.library.room);
+    let code = goOn();
+    if (code === Answer.JOBS_OUT) {
+      this.session.giveUp();
+      code = goOn();
+    }
     return this.session.goneOn(code, this.library.number());
   }
 
-  /** What is to be sent, after `send`, to a machine that may still be in the epoch before, or null. */
+  /** What is to be sent, after `send`, to a machine in the epoch before, or null. */
   sendBefore(machine, now) {
     const { calls, bytes, room } = this.library;
     return this.written(calls.peer_send_before(this.open, whole("machine", machine, U8), clock(now), bytes, raw.DATAGRAM, room));
   }
 }
 
-const LINE = ["number", "draw", "digest", "host", "machines", "owners", "silentAfter"];
+const LINE = ["number", "draw", "digest", "opening", "host", "machines", "owners", "silentAfter"];
 
 function lineOf(given) {
   checkNames("lines", given, LINE, ["number", "host", "machines", "owners"]);
@@ -905,9 +927,10 @@ function lineOf(given) {
     number: whole64("number", given.number),
     draw: whole64("draw", given.draw ?? randomNumber()),
     digest: whole64("digest", given.digest ?? 0n),
+    opening: whole64("opening", given.opening ?? 0n),
     host: whole("host", given.host),
     machines: whole("machines", given.machines),
-    owners: placesOf("owners", given.owners, raw.PLAYERS, raw.NO_PLAYER),
+    owners: placesOf("owners", given.owners, raw.matchFor(0, 0).owners),
     silentAfter: whole("silentAfter", given.silentAfter ?? raw.SILENT_AFTER),
   };
 }
@@ -998,7 +1021,7 @@ function stateNameOf(given) {
     which: whole64("which", given.which),
     frame: whole("frame", given.frame),
     length: whole("length", given.length),
-    digest: placesOf("digest", given.digest, raw.DIGEST_BYTES, 0, U8),
+    digest: placesOf("digest", given.digest, Array(raw.DIGEST_BYTES).fill(0), U8),
   };
 }
 

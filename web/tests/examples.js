@@ -6,7 +6,7 @@ const UNDER_WAY = 64;
 
 const { LEFT, DESYNC, TIME_SYNC } = { LEFT: 1101, DESYNC: 1102, TIME_SYNC: 1005 };
 const GONE = [LEFT, 1104, 1109]; // gone, dropped, cut off
-const [PENDING, NOTHING] = [202, 203];
+const [NO_JOB, PENDING, NOTHING, WRONG_TICKET] = [120, 202, 203, 330];
 
 function must(code, answer = 0) {
   if (code !== answer) throw new Error(`the answer was ${code}`);
@@ -266,7 +266,7 @@ const stayed = (peer) => Array.from({ length: 256 }, (_, machine) => peer.hasSta
 const COMERS = 0xfedcba9876543210n;
 const TICKET = 0xa00ed4d700000003n;
 
-/** The mark of a turn. That of turn 70 is void: its tag isn't that of its name. Nobody gets a player by the last one: none is free. */
+/** The mark of a turn. That of turn 70 isn't put: its tag isn't that of its name. Nobody gets a player by the last one: none is free. */
 function markIn(turn, me) {
   if (turn === 40 && me === 0) return {};
   if (turn === 70 && me === 0) return { comes: [2], ticket: TICKET - 1n };
@@ -316,12 +316,15 @@ function lastingTurn(library, it, turn, frames) {
   goOn(library, it);
   const frame = Number(it.epochs.at(-1).base) + session.frame;
   const mark = it.markIn(turn, me);
-  if (mark !== null) must(peer.mark(me + 1, mark));
+  if (mark !== null) must(peer.mark(me + 1, mark), mark?.ticket === TICKET - 1n ? WRONG_TICKET : 0);
   if (peer.isRunning && session.turn(frame < frames ? [pressedOf(me, frame)] : null) === PENDING) throw new Error("requests are left");
   return [peer.send(1 - me, turn * TURN), peer.sendBefore(1 - me, turn * TURN)].filter((bytes) => bytes !== null);
 }
 
-/** Two machines, each of which ends an epoch by a mark. Of the first one somebody is told who begins to watch after its end. */
+/**
+ * Two machines, each of which ends an epoch by a mark. Of the first one somebody is told who begins to watch after its end; a job that is
+ * out then is given up.
+ */
 export function epochs(library) {
   const frames = 200;
   const tickets = [3, 0xffffffff].map((name) => library.ticket(COMERS, name));
@@ -329,10 +332,14 @@ export function epochs(library) {
   const both = [0, 1].map((me) => lasting(library, me));
   const line = library.line(both[0].session, { number: 8n, draw: 21, host: 0, machines: 2, owners: [0, 1] });
   if (line.sendBefore(both[0].peer, 0) !== null) throw new Error("there is no epoch before");
+  let job = null;
   for (let turn = 0; turn < 600; turn++) {
     for (const it of both) [it.here, it.coming] = [it.coming, []];
     for (const it of both) both[1 - it.me].coming.push(...lastingTurn(library, it, turn, frames));
+    if (turn === 38) job = both[0].session.guess(2, [77], both[0].session.frame + 2);
   }
+  job.run(new Sum());
+  must(both[0].session.graft(job), NO_JOB);
   if (line.sendBefore(both[0].peer, 0) !== null) throw new Error("all have come to this epoch");
   line.close();
   const told = both.map(({ session, epochs: seen, stayed: counts, missing }) => {

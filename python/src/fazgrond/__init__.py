@@ -7,7 +7,7 @@ from .handle import Handle, Plays, Settings
 from .line import Line, LineSettings, LineState, Viewer
 from .numbers import (
     AS_BEFORE, ASKED, DATAGRAM, DIGEST_BYTES, GUESS_WORDS, HELD_WORDS, MACHINES, NO_MACHINE, NO_PLAYER, NOBODY, PIECE, PLAYERS,
-    VERSION, WINDOW_REACH, Answer, Call, Happened, Kind, Piece, Profile,
+    VERSION, WINDOW_REACH, Answer, Bye, Call, Happened, Kind, Piece, Profile,
 )
 from .peer import Event, Match, Peer, RemoteWord, Stats
 from .rows import Entry, Reached, Request, Row
@@ -18,7 +18,7 @@ from .window import Window
 
 __all__ = [
     "ASKED", "AS_BEFORE", "DATAGRAM", "DIGEST_BYTES", "GUESS_WORDS", "HELD_WORDS", "MACHINES", "NOBODY", "NO_MACHINE",
-    "NO_PLAYER", "PIECE", "PLAYERS", "VERSION", "WINDOW_REACH", "Answer", "Call", "Closed", "Entry", "Epoch", "Event",
+    "NO_PLAYER", "PIECE", "PLAYERS", "VERSION", "WINDOW_REACH", "Answer", "Bye", "Call", "Closed", "Entry", "Epoch", "Event",
     "Foreseen", "Game", "Giver", "Habits", "Handle", "Happened", "Heard", "Job", "Kind", "Line", "LineSettings", "LineState",
     "Mark", "Match", "Peer", "Piece", "Plays", "Profile", "Reached", "Refused", "RemoteWord", "Request", "Row", "Session",
     "Settings", "StateName", "Stats", "Taker", "TakerState", "Viewer", "Window", "state_ask", "state_sender", "state_told",

@@ -13,6 +13,9 @@ from .numbers import NO_PLAYER, NOBODY, PLAYERS
 if TYPE_CHECKING:
     from .peer import Match
 
+_MADE = lib.fazgrond_epoch_for([lib.fazgrond_match_for(0, 0)], [lib.fazgrond_settings_for(0)])
+_MARK = lib.fazgrond_mark_for()
+
 
 @dataclass
 class Epoch:
@@ -24,16 +27,20 @@ class Epoch:
     owners: Sequence[int | None]
     delays: Sequence[int]  # by how many frames each player's words count later, 0 to 8
     threshold: int  # how many frames its sessions may run ahead of the confirmed words
-    words: int = 1  # of how many words a player's input is
-    id: int = 0  # which epoch it is: 0 is the first one, and any other has a number of 64 bits of its own
-    base: int = 0  # how many frames of the match came before its first one
-    machines: int = 0  # how many there are. Where an epoch is opened, it isn't looked at, since the owners say it
+    words: int = _MADE.words  # of how many words a player's input is
+    id: int = _MADE.id  # which epoch it is: 0 is the first one, and any other has a number of 64 bits of its own
+    base: int = _MADE.base  # how many frames of the match came before its first one
+    machines: int = _MADE.machines  # how many there are. Where an epoch is opened, it isn't looked at, since the owners say it
 
     @classmethod
     def first(cls, match: Match, settings: Settings) -> Epoch:
         """The first epoch of a match whose sessions have these settings. These have a delay for the machine's own players alone: put
         those of the others into `delays`."""
         return cls._of(lib.fazgrond_epoch_for(match._raw(), settings._raw()))
+
+    def has(self, machine: int) -> bool:
+        """Whether a machine is in it: it owns a player. Send to those that are in the epoch which is played, but for this one."""
+        return machine in self.owners
 
     @classmethod
     def _of(cls, raw: Any) -> Epoch:
@@ -43,10 +50,7 @@ class Epoch:
         return cls(owners, delays, raw.threshold, raw.words, raw.id, raw.base, raw.machines)
 
     def _raw(self) -> Any:
-        raw = ffi.new("fazgrond_epoch *")
-        raw.size = ffi.sizeof("fazgrond_epoch")
-        for at in range(PLAYERS):
-            raw.owners[at] = NO_PLAYER
+        raw = ffi.new("fazgrond_epoch *", _MADE)
         put_owners(raw.owners, self.owners)
         put_players(raw.delays, "delays", dict(enumerate(self.delays, 1)))
         put(raw, self, "words threshold machines")
@@ -58,18 +62,18 @@ class Epoch:
 class Mark:
     """What is to be otherwise in the next epoch. With nothing in it the frames begin anew, and that is all.
 
-    It is void, as if it weren't there, if its threshold is over 15 or a delay over 8, if it gives a delay to a player of another
-    machine, or if somebody is to come by a ticket that isn't of the match's `comers`. Of each player the first mark of an epoch counts
-    alone, even if it is void.
+    It is void, and refused by its name, if its threshold is over 15 or a delay over 8, if it gives a delay to a player of another
+    machine or the words of an input other delays than each other, or if somebody is to come by a ticket that isn't of the match's
+    `comers`. Of each player the first mark of an epoch counts alone, even if it is void.
     """
 
-    threshold: int = 0  # the new one; 0: as before
+    threshold: int = _MARK.threshold  # the new one; 0: as before
     delays: Mapping[int, int] = field(default_factory=dict)  # new delays of players of the machine that puts it
     comes: Collection[int] = ()  # the players that somebody who comes is to own
-    ticket: int = 0  # of who comes: see the function `ticket`
+    ticket: int = _MARK.ticket  # of who comes: see the function `ticket`
 
     def _raw(self) -> Any:
-        raw = ffi.new("fazgrond_mark *", lib.fazgrond_mark_for())
+        raw = ffi.new("fazgrond_mark *", _MARK)
         put(raw, self, "threshold")
         put(raw, self, "ticket", u64)
         put_players(raw.delays, "delays", self.delays)

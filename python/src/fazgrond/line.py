@@ -30,13 +30,14 @@ class LineSettings:
     digest: int = 0
     silent_after: int = SILENT_AFTER  # 5,000: milliseconds after which the other end is silent that answers nothing; 0: it never is
     draw: int | None = None
+    opening: int = 0  # as of the match
 
     def _raw(self) -> Any:
         raw = ffi.new("fazgrond_line_settings *")
         put_owners(raw.owners, [NO_PLAYER] * PLAYERS)
         put_owners(raw.owners, self.owners)
         raw.draw = drawn() if self.draw is None else u64("draw", self.draw)
-        put(raw, self, "number digest", u64)
+        put(raw, self, "number digest opening", u64)
         put(raw, self, "host machines silent_after")
         return raw
 

@@ -103,6 +103,15 @@ class Answer(IntEnum):
     TOO_LONG = 320
     NO_MARKS = 321
     MARKED = 322
+    UNLIKE_DELAYS = 323
+    TWO_OWNERS = 324
+    TOO_MANY_WORDS = 325
+    NO_NUMBER = 326
+    GREAT_THRESHOLD = 327
+    LONG_DELAY = 328
+    OTHERS_DELAY = 329
+    WRONG_TICKET = 330
+    JOBS_OUT = 331
 
 
 class Happened(IntEnum):
@@ -125,6 +134,16 @@ class Happened(IntEnum):
     MISSING = 1108
     CUT_OFF = 1109
     STRANGERS = 1110
+    TWO_MARKS = 1111
+
+
+class Bye(IntEnum):
+    """Why a machine says bye. From BYE_OWN to 255 they are the program's own."""
+
+    BYE_LEAVES = 1
+    BYE_DESYNC = 2
+    BYE_ERROR = 3
+    BYE_OWN = 16
 
 
 class Piece(IntEnum):

@@ -11,10 +11,13 @@ from .epoch import Epoch, Mark
 from .errors import Refused, said, said_or_nothing
 from .given import Octets, clock, octets, put, put_owners, u8, u32, u64
 from .handle import Plays
-from .numbers import HELD_WORDS, MACHINES, NOTIFY_AFTER, SILENT_AFTER, Answer, Happened
+from .numbers import HELD_WORDS, MACHINES, Answer, Bye, Happened
 from .owned import Owned, written
 from .rows import Reached
 from .session import Session
+
+_MADE = lib.fazgrond_match_for(0, 0)
+
 
 def drawn() -> int:
     """64 bits of the system's random source, and never 0."""
@@ -33,15 +36,16 @@ class Match:
     machines: int
     owners: Sequence[int]
     number: int | Sequence[int]
-    digest: int = 0  # of all else that has to be alike at all machines
-    comers: int = 0  # who may come to a match that goes on: see `ticket`. 0: anybody whom a mark has come
-    silent_after: int = SILENT_AFTER  # 5,000: milliseconds after which a machine is gone that answers nothing; 0: it never is
-    notify_after: int = NOTIFY_AFTER  # 750: after which INTERRUPTED and STALLED tell of one; 0: neither is told
-    stalled_after: int = 0  # after which a machine is gone that gives no words; 0: it never is
-    words: int = 1  # of how many words a player's input is, 1 to 4
-    held_turns: int = 0  # for how many turns others' words wait beside the session, 1 to 8; 0: they don't
+    digest: int = _MADE.digest  # of all else that has to be alike at all machines, but for the opening state
+    comers: int = _MADE.comers  # who may come to a match that goes on: see `ticket`. 0: anybody whom a mark has come
+    silent_after: int = _MADE.silent_after  # 5,000: milliseconds after which a machine is gone that answers nothing; 0: it never is
+    notify_after: int = _MADE.notify_after  # 750: after which INTERRUPTED and STALLED tell of one; 0: neither is told
+    stalled_after: int = _MADE.stalled_after  # after which a machine is gone that holds this one up; 0: it never is
+    words: int = _MADE.words  # of how many words a player's input is, 1 to 4
+    held_turns: int = _MADE.held_turns  # for how many turns others' words wait beside the session, 1 to 8; 0: they don't
     carries: bool = False  # of three machines or more: hand on what two others send each other whose line is broken (`send_more`)
     draw: int | None = None
+    opening: int = _MADE.opening  # a digest of the opening state, which is compared before the match begins. 0 if there is none
 
     def _raw(self) -> Any:
         raw = ffi.new("fazgrond_match *", lib.fazgrond_match_for(u32("machines", self.machines), u32("me", self.me)))
@@ -54,7 +58,7 @@ class Match:
                 raw.numbers[at] = u64(f"number[{at}]", number)
         put_owners(raw.owners, self.owners)
         raw.draw = drawn() if self.draw is None else u64("draw", self.draw)
-        put(raw, self, "digest comers", u64)
+        put(raw, self, "digest opening comers", u64)
         put(raw, self, "silent_after notify_after stalled_after words held_turns")
         return raw
 
@@ -72,6 +76,7 @@ class Event:
     disconnect_in: int
     frame: int
     field: int
+    bye: int  # why a machine that is gone said bye, as `Bye`; 0 if it said none
 
 
 class Stats(NamedTuple):
@@ -86,6 +91,8 @@ class Stats(NamedTuple):
     frames_behind: int  # by how many frames this machine is behind the other: negative if it is ahead
     their_frames_behind: int  # and the other, as it says, behind this one
     refused: int  # datagrams that it sealed and that were refused, or had words that were
+    dropped: int  # datagrams of it that called this machine gone
+    restarted: bool  # whether it was opened anew in the middle of the match
 
 
 class RemoteWord(NamedTuple):
@@ -191,12 +198,12 @@ class Peer(Owned):
             more = written(lambda out, room, length: lib.fazgrond_peer_send_more(peer, to, out, room, length))
             return None if more is None else (int(to[0]), more)
 
-    def bye(self, machine: int) -> bytes | None:
-        """The datagram that says to a machine that this one leaves the match. Send each a few times. None if there is nobody to
-        tell."""
+    def bye(self, machine: int, why: int = Bye.BYE_LEAVES) -> bytes | None:
+        """The datagram that says to a machine that this one leaves the match, and why. Send each a few times. None if there is nobody
+        to tell."""
         with self._lock:
-            peer, to = self._at(), u8("machine", machine)
-            return written(lambda out, room, length: lib.fazgrond_peer_bye(peer, to, out, room, length))
+            told = self._at(), u8("machine", machine), u8("why", why)
+            return written(lambda out, room, length: lib.fazgrond_peer_bye(*told, out, room, length))
 
     def disconnect(self, machine: int) -> None:
         """Regards a machine as gone, for good. Its players leave the session at a later `poll`."""
@@ -228,7 +235,8 @@ class Peer(Owned):
             code = lib.fazgrond_peer_stats(self._at(), u8("machine", machine), seen)
         if code == Answer.INVALID_MACHINE or not said_or_nothing(code):
             return None
-        return Stats(bool(seen.is_measured), *[getattr(seen, name) for name in Stats._fields[1:]])
+        told = [getattr(seen, name) for name in Stats._fields[1:-1]]
+        return Stats._make([bool(seen.is_measured), *told, bool(seen.restarted)])
 
     def waiting(self) -> list[RemoteWord]:
         """The words that wait, in the order in which they came. None do if the match has no `held_turns`.
@@ -296,14 +304,15 @@ class Peer(Owned):
 
         The session has begun anew then, at the end of the epoch, and so has all that is counted by frames: settled rows, confirmed
         words, the log. The words that this machine's players gave past the end are given again, and the frames past it are run again.
-        The jobs of the epoch before are over. A handle's requests are its caller's."""
+        The jobs of the epoch before are given up first. A handle's requests and jobs are its caller's: `JOBS_OUT` until all are grafted
+        or forgotten."""
         with self._lock:
             peer, frames = self._at(), self._frames
             has_begun = self.session._gone_on(lambda session, out: lib.fazgrond_peer_go_on(peer, session, out), frames)
             return self.session.frame if has_begun else None
 
     def send_before(self, machine: int, now: int) -> bytes | None:
-        """What is to be sent, after `send`, to a machine that may still be in the epoch before. None if there is nothing."""
+        """What is to be sent, after `send`, to a machine in the epoch before. None if there is nothing."""
         with self._lock:
             told = self._at(), u8("machine", machine), clock(now)
             return written(lambda out, room, length: lib.fazgrond_peer_send_before(*told, out, room, length))

@@ -17,7 +17,7 @@ if TYPE_CHECKING:
 S = TypeVar("S")
 T = TypeVar("T")
 
-_OK = int(Answer.OK)
+_OK, _JOBS_OUT = int(Answer.OK), int(Answer.JOBS_OUT)
 _LOAD, _SAVE, _STEP = int(Kind.LOAD), int(Kind.SAVE), int(Kind.STEP)
 _JOB_LOAD, _JOB_STEP = int(Kind.JOB_LOAD), int(Kind.JOB_STEP)
 
@@ -188,19 +188,23 @@ class Session(Plays, Generic[S]):
         self._is_torn = False
 
     def _gone_on(self, call: Callable[[Any, Any], Any], frames: Any) -> bool:
-        """Whether the next epoch has begun, as a peer's call says. The jobs of the one before are over then. If a method of the game
+        """Whether the next epoch has begun, as a peer's call says. The jobs of the one before are given up. If a method of the game
         raised meanwhile, the next call says it."""
         self._must_be_whole()
         if not self._has_begun:
-            said_or_nothing(self._rolled(lambda session, out: self._noted(call(session, out)), frames))
+            said_or_nothing(self._rolled(lambda session, out: self._begun(call, session, out), frames))
         has_begun, self._has_begun = self._has_begun, False
         return has_begun
 
-    def _noted(self, code: int) -> int:
-        """Notes that an epoch has begun, if an answer says so."""
-        if code == _OK:
-            self._has_begun = True
+    def _begun(self, call: Callable[[Any, Any], Any], session: Any, out: Any) -> int:
+        """Notes that an epoch has begun, if a call says so. Jobs that are out are given up first: no state of them is in a slot."""
+        code: int = call(session, out)
+        if code == _JOBS_OUT:
+            for number in self._jobs:
+                said(lib.fazgrond_forget(session, number))
             self._jobs.clear()
+            code = call(session, out)
+        self._has_begun = code == _OK
         return code
 
     def _put(self, slot: int, state: S | None) -> None:

@@ -29,7 +29,12 @@ impl Epoch {
     /// The first epoch of a match whose sessions have these settings. These have a delay for the machine's own players alone, and 0
     /// for others: if other machines have delays, put those of their players into it.
     pub fn first(of: &Match, settings: &Settings) -> Epoch {
-        Epoch::of(&of.first_epoch(settings))
+        Epoch::of(&raw::Epoch::made(of, settings))
+    }
+
+    /// Whether a machine is in it: it owns a player. Send to those that are in the epoch which is played, but for this one.
+    pub fn has(&self, machine: u8) -> bool {
+        self.owners.contains(&Some(machine))
     }
 
     /// As the library has it.
@@ -71,17 +76,17 @@ impl Epoch {
 
 /// What is to be otherwise in the next epoch of a match.
 ///
-/// It is void, as if it weren't there, if its threshold is over 15 or a delay over 8, if it gives a delay to a player of another
-/// machine, or if somebody is to come by a [`ticket`] that isn't of the match's [`comers`](Match::comers). Of each player the first
-/// mark of an epoch counts alone, even if it is void.
+/// It is void, and refused by its name, if its threshold is over 15 or a delay over 8, if it gives a delay to a player of another
+/// machine or the words of an input other delays than each other, or if somebody is to come by a [`ticket`] that isn't of the match's
+/// [`comers`](Match::comers). Of each player the first mark of an epoch counts alone, even if it is void.
 #[derive(Clone, Debug)]
 #[repr(C)]
 pub struct Mark {
-    size: u32,
-    threshold: u32,
-    ticket: u64,
-    comes: [u32; PLAYERS],
-    delays: [u32; PLAYERS],
+    pub(crate) size: u32,
+    pub(crate) threshold: u32,
+    pub(crate) ticket: u64,
+    pub(crate) comes: [u32; PLAYERS],
+    pub(crate) delays: [u32; PLAYERS],
 }
 
 impl Default for Mark {
@@ -93,13 +98,7 @@ impl Default for Mark {
 impl Mark {
     /// One that changes nothing: the frames begin anew, and that is all.
     pub fn new() -> Mark {
-        Mark {
-            size: size_of::<Mark>() as u32,
-            threshold: 0,
-            ticket: 0,
-            comes: [0; PLAYERS],
-            delays: [raw::AS_BEFORE; PLAYERS],
-        }
+        Mark::made()
     }
 
     /// How many frames sessions may run ahead of the confirmed words, 1 to 15. 0: as before.

@@ -99,10 +99,28 @@ pub enum Error {
     NoMarks = 321,
     /// The player has a mark in this epoch already.
     Marked = 322,
+    /// The words of an input have other delays than each other: in the session, the epoch, or after a mark.
+    UnlikeDelays = 323,
+    /// The words of an input have two owners, or some of them have none.
+    TwoOwners = 324,
+    /// Too many words: an input that a machine owns has some past the eighth place.
+    TooManyWords = 325,
+    /// A number with another machine is 0.
+    NoNumber = 326,
+    /// The threshold of a mark is over 15, or over what the session's limits allow.
+    GreatThreshold = 327,
+    /// A delay of a mark is over 8 frames.
+    LongDelay = 328,
+    /// A mark gives a delay to a player that isn't this machine's.
+    OthersDelay = 329,
+    /// The ticket of a mark isn't of the match's `comers`, and the name in it.
+    WrongTicket = 330,
+    /// The epoch is over, and jobs are out: graft or forget them first.
+    JobsOut = 331,
 }
 
 /// All of them. c/numbers writes the list.
-const ALL: [Error; 46] = [
+const ALL: [Error; 55] = [
     Error::InvalidPlayer,
     Error::PlayerOutOfRange,
     Error::PredictionThreshold,
@@ -149,6 +167,15 @@ const ALL: [Error; 46] = [
     Error::TooLong,
     Error::NoMarks,
     Error::Marked,
+    Error::UnlikeDelays,
+    Error::TwoOwners,
+    Error::TooManyWords,
+    Error::NoNumber,
+    Error::GreatThreshold,
+    Error::LongDelay,
+    Error::OthersDelay,
+    Error::WrongTicket,
+    Error::JobsOut,
 ];
 
 /// Longer than each sentence of the library.

@@ -195,7 +195,7 @@ impl Handle {
         }
     }
 
-    /// Makes room for so many more events: none of them is then refused for want of memory by the log.
+    /// Makes room for so many more events: none of them is then refused for want of memory, but of slots if they are limited.
     pub fn reserve_log(&mut self, events: u32) -> Result<(), Error> {
         said(unsafe { raw::fazgrond_reserve_log(self.raw(), events) })
     }

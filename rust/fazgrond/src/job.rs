@@ -105,6 +105,11 @@ impl Jobs {
         Some(self.0.swap_remove(at).slots)
     }
 
+    /// The numbers of all.
+    pub(crate) fn numbers(&self) -> impl Iterator<Item = u32> + '_ {
+        self.0.iter().map(|out| out.number)
+    }
+
     /// Takes out the jobs that were dropped, and answers their numbers.
     pub(crate) fn dropped(&mut self) -> Vec<u32> {
         let mut numbers = Vec::new();

@@ -121,7 +121,7 @@ pub use habits::{Foreseen, Habits, GUESS_WORDS};
 pub use handle::{Entry, Handle, Heard, Reached, Request, Requests};
 pub use job::{Done, Job};
 pub use line::{Line, LineSettings, LineState, Viewer};
-pub use peer::{Datagram, Event, Field, Match, Peer, Plays, RemoteWord, Stats, HELD_WORDS, MACHINES};
+pub use peer::{bye, Datagram, Event, Field, Match, Peer, Plays, RemoteWord, Stats, HELD_WORDS, MACHINES};
 pub use row::{Row, PLAYERS};
 pub use session::{Game, Session};
 pub use settings::Settings;

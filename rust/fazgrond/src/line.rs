@@ -11,6 +11,7 @@ pub struct LineSettings {
     number: u64,
     draw: u64,
     digest: u64,
+    opening: u64,
     host: u32,
     machines: u32,
     owners: [u32; PLAYERS],
@@ -32,6 +33,7 @@ impl LineSettings {
             number,
             draw,
             digest: 0,
+            opening: 0,
             host: host.into(),
             machines: machines.into(),
             owners: owners_of(owners),
@@ -42,6 +44,11 @@ impl LineSettings {
     /// The digest of the match.
     pub fn digest(self, digest: u64) -> LineSettings {
         LineSettings { digest, ..self }
+    }
+
+    /// The digest of the match's opening state.
+    pub fn opening(self, digest: u64) -> LineSettings {
+        LineSettings { opening: digest, ..self }
     }
 
     /// After how many milliseconds the other end is silent, which answers nothing. 0: it never is.

@@ -5,9 +5,7 @@ use crate::owned::{answered, Owned};
 use crate::raw;
 use crate::row::PLAYERS;
 use crate::session::{Game, Session};
-use crate::settings::Settings;
 use std::fmt;
-use std::mem::size_of;
 use std::ops::Deref;
 
 /// The most machines of a match.
@@ -20,19 +18,20 @@ pub(crate) const NO_PLAYER: u32 = 255;
 #[derive(Clone, Debug)]
 #[repr(C)]
 pub struct Match {
-    size: u32,
-    numbers: [u64; MACHINES],
-    draw: u64,
-    digest: u64,
-    comers: u64,
-    me: u32,
-    machines: u32,
-    owners: [u32; PLAYERS],
-    silent_after: u32,
-    notify_after: u32,
-    stalled_after: u32,
-    words: u32,
-    held_turns: u32,
+    pub(crate) size: u32,
+    pub(crate) numbers: [u64; MACHINES],
+    pub(crate) draw: u64,
+    pub(crate) digest: u64,
+    pub(crate) opening: u64,
+    pub(crate) comers: u64,
+    pub(crate) me: u32,
+    pub(crate) machines: u32,
+    pub(crate) owners: [u32; PLAYERS],
+    pub(crate) silent_after: u32,
+    pub(crate) notify_after: u32,
+    pub(crate) stalled_after: u32,
+    pub(crate) words: u32,
+    pub(crate) held_turns: u32,
 }
 
 impl Match {
@@ -46,21 +45,7 @@ impl Match {
     ///
     /// If there are more than 8 owners.
     pub fn new(machines: u8, me: u8, owners: &[u8], draw: u64) -> Match {
-        Match {
-            size: size_of::<Match>() as u32,
-            numbers: [0; MACHINES],
-            draw,
-            digest: 0,
-            comers: 0,
-            me: me.into(),
-            machines: machines.into(),
-            owners: owners_of(owners),
-            silent_after: raw::SILENT_AFTER,
-            notify_after: raw::NOTIFY_AFTER,
-            stalled_after: 0,
-            words: 1,
-            held_turns: 0,
-        }
+        Match { draw, owners: owners_of(owners), ..Match::made(machines.into(), me.into()) }
     }
 
     /// One number for all machines, 64 random bits: each of them could speak in the name of another.
@@ -73,9 +58,14 @@ impl Match {
         Match { numbers, ..self }
     }
 
-    /// A digest of all else that has to be alike at all machines.
+    /// A digest of all else that has to be alike at all machines, but for the opening state.
     pub fn digest(self, digest: u64) -> Match {
         Match { digest, ..self }
+    }
+
+    /// A digest of the opening state, which is compared before the match begins. 0: there is none.
+    pub fn opening(self, digest: u64) -> Match {
+        Match { opening: digest, ..self }
     }
 
     /// Who may come to a match that goes on: see [`ticket`](crate::ticket). 0: anybody whom a mark has come.
@@ -94,7 +84,7 @@ impl Match {
         Match { notify_after: milliseconds, ..self }
     }
 
-    /// After how many milliseconds a machine is gone that answers, and holds this one up since it gives no words. 0: it never is.
+    /// After how many milliseconds a machine is gone that answers, and holds this one up as it gives or takes no words. 0: it never is.
     pub fn stalled_after(self, milliseconds: u32) -> Match {
         Match { stalled_after: milliseconds, ..self }
     }
@@ -109,21 +99,6 @@ impl Match {
     /// session is given them as they come.
     pub fn held_turns(self, turns: u32) -> Match {
         Match { held_turns: turns, ..self }
-    }
-
-    /// The first epoch of it, whose sessions have these settings.
-    pub(crate) fn first_epoch(&self, settings: &Settings) -> raw::Epoch {
-        let (threshold, delays) = settings.of_epoch();
-        raw::Epoch {
-            size: size_of::<raw::Epoch>() as u32,
-            words: self.words,
-            threshold,
-            machines: self.machines,
-            id: 0,
-            base: 0,
-            owners: self.owners,
-            delays,
-        }
     }
 }
 
@@ -178,10 +153,29 @@ pub enum Field {
     Machines,
     /// The owners of the players.
     Owners,
-    /// The digest, or who may come, or whether it goes on in epochs.
+    /// The digest, or who may come.
     Digest,
     /// The number of words of an input.
     Words,
+    /// Whether it goes on in epochs.
+    Lasting,
+    /// The opening state.
+    Opening,
+}
+
+/// Why a machine says bye. From [`OWN`](bye::OWN) to 255 they are the program's own; the library tells them, and does nothing else by
+/// them.
+pub mod bye {
+    use crate::raw;
+
+    /// It leaves.
+    pub const LEAVES: u8 = raw::BYE_LEAVES as u8;
+    /// It plays another state than the others.
+    pub const DESYNC: u8 = raw::BYE_DESYNC as u8;
+    /// It can't go on.
+    pub const ERROR: u8 = raw::BYE_ERROR as u8;
+    /// The first one of the program's own.
+    pub const OWN: u8 = raw::BYE_OWN as u8;
 }
 
 /// Something that a peer tells its program.
@@ -229,8 +223,10 @@ pub enum Event {
     Left {
         /// The machine.
         machine: u8,
+        /// Why, as its bye said ([`bye::LEAVES`] and the like); 0 if none was heard.
+        bye: u8,
     },
-    /// A machine has another state at a settled frame.
+    /// A machine has another state at a settled frame: the first such one, as far as both have noted digests.
     Desync {
         /// The machine.
         machine: u8,
@@ -251,7 +247,7 @@ pub enum Event {
         /// The machine.
         machine: u8,
     },
-    /// A machine is heard, and holds this one up, since it gives no words.
+    /// A machine is heard, and holds this one up: it gives no words, or takes none, or stays in the epoch before.
     Stalled {
         /// The machine.
         machine: u8,
@@ -278,6 +274,14 @@ pub enum Event {
         /// How many hellos came that are sealed by another number, are of another version, or name a place of none of the others.
         count: u32,
     },
+    /// A machine knows another mark of a player than this machine: the player's machine told it in two ways, or one of those that tell
+    /// of it lies. Told once of each machine.
+    TwoMarks {
+        /// The machine.
+        machine: u8,
+        /// The player.
+        player: u8,
+    },
 }
 
 impl Event {
@@ -292,7 +296,7 @@ impl Event {
             raw::TIME_SYNC => Event::TimeSync { frames_ahead: told.frames_ahead },
             raw::INTERRUPTED => Event::Interrupted { machine, disconnect_in },
             raw::RESUMED => Event::Resumed { machine },
-            raw::LEFT => Event::Left { machine },
+            raw::LEFT => Event::Left { machine, bye: told.bye as u8 },
             raw::DESYNC => Event::Desync { machine, frame: told.frame },
             raw::MISMATCH => Event::Mismatch { machine, field: field_of(told.field) },
             raw::DROPPED => Event::Dropped,
@@ -302,6 +306,7 @@ impl Event {
             raw::MISSING => Event::Missing { machine },
             raw::CUT_OFF => Event::CutOff { over_in: disconnect_in },
             raw::STRANGERS => Event::Strangers { count: told.count },
+            raw::TWO_MARKS => Event::TwoMarks { machine, player: told.player as u8 },
             code => unreachable!("an event of the code {code}"),
         }
     }
@@ -313,6 +318,8 @@ fn field_of(field: u32) -> Field {
         2 => Field::Owners,
         3 => Field::Digest,
         4 => Field::Words,
+        5 => Field::Lasting,
+        6 => Field::Opening,
         field => unreachable!("a field of the number {field}"),
     }
 }
@@ -336,6 +343,10 @@ pub struct Stats {
     pub their_frames_behind: i32,
     /// How many that it sealed were refused, or had words that were.
     pub refused: u32,
+    /// How many of it called this machine gone.
+    pub dropped: u32,
+    /// Whether it was opened anew in the middle of the match.
+    pub restarted: bool,
 }
 
 /// A word of another machine's player.
@@ -360,8 +371,7 @@ mod sealed {
         fn raw(&self) -> *mut crate::raw::Session;
 
         /// Makes the call that goes on in the next epoch, and carries out what it asks for, if that isn't the caller's.
-        fn go_on(&mut self, call: impl FnOnce(&mut Handle) -> Result<Option<u32>, Error>)
-            -> Result<Option<u32>, Error>;
+        fn go_on(&mut self, call: impl FnMut(&mut Handle) -> Result<Option<u32>, Error>) -> Result<Option<u32>, Error>;
     }
 }
 
@@ -373,7 +383,7 @@ impl sealed::Sealed for Handle {
         Handle::raw(self)
     }
 
-    fn go_on(&mut self, call: impl FnOnce(&mut Handle) -> Result<Option<u32>, Error>) -> Result<Option<u32>, Error> {
+    fn go_on(&mut self, mut call: impl FnMut(&mut Handle) -> Result<Option<u32>, Error>) -> Result<Option<u32>, Error> {
         call(self)
     }
 }
@@ -385,7 +395,7 @@ impl<G: Game> sealed::Sealed for Session<G> {
         self.handle().raw()
     }
 
-    fn go_on(&mut self, call: impl FnOnce(&mut Handle) -> Result<Option<u32>, Error>) -> Result<Option<u32>, Error> {
+    fn go_on(&mut self, call: impl FnMut(&mut Handle) -> Result<Option<u32>, Error>) -> Result<Option<u32>, Error> {
         Session::go_on(self, call)
     }
 }
@@ -545,11 +555,12 @@ impl Peer {
         made.unwrap_or(None).map(|datagram| (machine, datagram))
     }
 
-    /// The datagram that says to a machine that this one leaves the match: another one for each machine. Send each a few times.
-    /// None if there is nobody to tell. A peer that carries has [`send_more`](Peer::send_more) after it too.
-    pub fn bye(&self, machine: u8) -> Option<Datagram> {
+    /// The datagram that says to a machine that this one leaves the match, and why ([`bye::LEAVES`] and the like): another one for
+    /// each machine. Send each a few times. None if there is nobody to tell. A peer that carries has [`send_more`](Peer::send_more)
+    /// after it too.
+    pub fn bye(&self, machine: u8, why: u8) -> Option<Datagram> {
         let made = Datagram::written(|out, room, length| unsafe {
-            raw::fazgrond_peer_bye(self.raw(), machine, out, room, length)
+            raw::fazgrond_peer_bye(self.raw(), machine, why, out, room, length)
         });
         made.unwrap_or(None)
     }
@@ -581,6 +592,8 @@ impl Peer {
             frames_behind: seen.frames_behind,
             their_frames_behind: seen.their_frames_behind,
             refused: seen.refused,
+            dropped: seen.dropped,
+            restarted: seen.restarted != 0,
         })
     }
 
@@ -648,7 +661,8 @@ impl Peer {
 
     /// Puts a mark on the next word that a player of this machine gives: the epoch ends after that frame. If another machine's mark ends
     /// it before, this one is forgotten. Refused with [`Error::Marked`] if the player has a mark in this epoch already, and with
-    /// [`Error::InvalidPlayer`] if it isn't the first word of an input of this machine.
+    /// [`Error::InvalidPlayer`] if it isn't the first word of an input of this machine. A mark that would be void is refused by its name:
+    /// with [`Error::GreatThreshold`], [`Error::LongDelay`], [`Error::OthersDelay`], [`Error::UnlikeDelays`] or [`Error::WrongTicket`].
     pub fn mark(&mut self, session: &impl Plays, player: u8, mark: &Mark) -> Result<(), Error> {
         said(unsafe { raw::fazgrond_peer_mark(self.raw(), session.raw(), player, mark) })
     }
@@ -657,9 +671,9 @@ impl Peer {
     /// is. None if this epoch isn't over, or the match doesn't go on in epochs.
     ///
     /// The session has begun anew then, at the end of the epoch, and so has all that is counted by frames: settled rows, confirmed words,
-    /// the log. The words that this machine's players gave past the end are given again, and the frames past it are run again. The jobs
-    /// of the epoch before are over: what is grafted of them is refused with [`Error::NoJob`]. A [`Handle`]'s requests are
-    /// its caller's: carry them out as those of a rollback.
+    /// the log. The words that this machine's players gave past the end are given again, and the frames past it are run again. A
+    /// [`Session`] gives its jobs up first: what is grafted of them is refused with [`Error::NoJob`]. A [`Handle`]'s requests and jobs are
+    /// its caller's: it is refused with [`Error::JobsOut`] until they are grafted or forgotten.
     ///
     /// Refused as a session or a peer that is opened, and nothing is changed then: with [`Error::InvalidRequest`] if the others go on
     /// without this machine, since it has left for them.
@@ -670,7 +684,7 @@ impl Peer {
         })
     }
 
-    /// What is to be sent, after [`send`](Peer::send), to a machine that may still be in the epoch before. None if there is nothing.
+    /// What is to be sent, after [`send`](Peer::send), to a machine in the epoch before. None if there is nothing.
     pub fn send_before(&mut self, machine: u8, now: u32) -> Option<Datagram> {
         let made = Datagram::written(|out, room, length| unsafe {
             raw::fazgrond_peer_send_before(self.raw(), machine, now, out, room, length)

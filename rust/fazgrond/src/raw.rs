@@ -9,6 +9,7 @@ use crate::row::Row;
 use crate::settings::Settings;
 use crate::state::StateName;
 use std::ffi::c_void;
+use std::mem::size_of;
 
 /// What is open: a session, a peer, a line, a viewer, a player's habits, or who gives or takes a state. To another kind's calls
 /// it is closed.
@@ -55,6 +56,7 @@ pub struct Event {
     pub disconnect_in: u32,
     pub frame: u32,
     pub field: u32,
+    pub bye: u32,
 }
 
 #[repr(C)]
@@ -69,6 +71,8 @@ pub struct Stats {
     pub frames_behind: i32,
     pub their_frames_behind: i32,
     pub refused: u32,
+    pub dropped: u32,
+    pub restarted: u32,
 }
 
 #[repr(C)]
@@ -203,6 +207,15 @@ pub const WRONG_LENGTH: i32 = 319;
 pub const TOO_LONG: i32 = 320;
 pub const NO_MARKS: i32 = 321;
 pub const MARKED: i32 = 322;
+pub const UNLIKE_DELAYS: i32 = 323;
+pub const TWO_OWNERS: i32 = 324;
+pub const TOO_MANY_WORDS: i32 = 325;
+pub const NO_NUMBER: i32 = 326;
+pub const GREAT_THRESHOLD: i32 = 327;
+pub const LONG_DELAY: i32 = 328;
+pub const OTHERS_DELAY: i32 = 329;
+pub const WRONG_TICKET: i32 = 330;
+pub const JOBS_OUT: i32 = 331;
 
 pub const SYNCHRONIZING: u32 = 1001;
 pub const SYNCHRONIZED: u32 = 1002;
@@ -221,11 +234,81 @@ pub const REFUSED: u32 = 1107;
 pub const MISSING: u32 = 1108;
 pub const CUT_OFF: u32 = 1109;
 pub const STRANGERS: u32 = 1110;
+pub const TWO_MARKS: u32 = 1111;
+
+pub const BYE_LEAVES: u32 = 1;
+pub const BYE_DESYNC: u32 = 2;
+pub const BYE_ERROR: u32 = 3;
+pub const BYE_OWN: u32 = 16;
 
 pub const PIECE_AGAIN: u32 = 1;
 pub const PIECE_TAKEN: u32 = 2;
 pub const STATE_WHOLE: u32 = 3;
 pub const STATE_WRONG: u32 = 4;
+
+impl Settings {
+    pub(crate) fn made(players: u32) -> Settings {
+        Settings {
+            size: size_of::<Self>() as u32,
+            profile: if players <= 4 { GGPO } else { WIDE },
+            players,
+            local: 0,
+            threshold: if players <= 4 { 8 } else { 15 },
+            limit: 1048576,
+            log: 16777216,
+            delays: [0; PLAYERS],
+            masks: [0xffffffff; PLAYERS],
+        }
+    }
+}
+
+impl Match {
+    pub(crate) fn made(machines: u32, me: u32) -> Match {
+        Match {
+            size: size_of::<Self>() as u32,
+            numbers: [0; MACHINES],
+            draw: 0,
+            digest: 0,
+            opening: 0,
+            comers: 0,
+            me,
+            machines,
+            owners: [NO_PLAYER; PLAYERS],
+            silent_after: SILENT_AFTER,
+            notify_after: NOTIFY_AFTER,
+            stalled_after: 0,
+            words: 1,
+            held_turns: 0,
+        }
+    }
+}
+
+impl Epoch {
+    pub(crate) fn made(of: &Match, settings: &Settings) -> Epoch {
+        Epoch {
+            size: size_of::<Self>() as u32,
+            words: of.words,
+            threshold: settings.threshold,
+            machines: of.machines,
+            id: 0,
+            base: 0,
+            owners: of.owners,
+            delays: settings.delays,
+        }
+    }
+}
+
+impl Mark {
+    pub(crate) fn made() -> Mark {
+        Mark {
+            size: size_of::<Self>() as u32,
+            threshold: 0,
+            ticket: 0,
+            comes: [0; PLAYERS],
+            delays: [AS_BEFORE; PLAYERS],
+        }
+    }
+}
 
 extern "C" {
     pub fn fazgrond_version() -> u32;
@@ -290,7 +373,14 @@ extern "C" {
         room: usize,
         length: *mut usize,
     ) -> i32;
-    pub fn fazgrond_peer_bye(peer: *mut Peer, machine: u8, out: *mut u8, room: usize, length: *mut usize) -> i32;
+    pub fn fazgrond_peer_bye(
+        peer: *mut Peer,
+        machine: u8,
+        why: u8,
+        out: *mut u8,
+        room: usize,
+        length: *mut usize,
+    ) -> i32;
     pub fn fazgrond_peer_disconnect(peer: *mut Peer, machine: u8) -> i32;
     pub fn fazgrond_peer_note_settled(peer: *mut Peer, session: *mut Session, digest: u64) -> i32;
     pub fn fazgrond_peer_event(peer: *mut Peer, event: *mut Event) -> i32;

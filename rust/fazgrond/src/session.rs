@@ -196,7 +196,7 @@ impl<G: Game> Session<G> {
         self.handle.limit_slots(slots);
     }
 
-    /// Makes room for so many more events: none of them is then refused for want of memory by the log.
+    /// Makes room for so many more events: none of them is then refused for want of memory, but of slots if they are limited.
     pub fn reserve_log(&mut self, events: u32) -> Result<(), Error> {
         self.handle.reserve_log(events)
     }
@@ -271,16 +271,19 @@ impl<G: Game> Session<G> {
         self.handle.input_frame(player)
     }
 
-    /// Goes on in the next epoch of a match, if a peer says so. Then the jobs of the one before are over.
+    /// Goes on in the next epoch of a match, if a peer says so. The jobs of the one before are given up: no state of them is in a slot.
     pub(crate) fn go_on(
         &mut self,
-        call: impl FnOnce(&mut Handle) -> Result<Option<u32>, Error>,
+        mut call: impl FnMut(&mut Handle) -> Result<Option<u32>, Error>,
     ) -> Result<Option<u32>, Error> {
-        let frames = self.roll(call)?;
-        if frames.is_some() {
-            self.jobs = Jobs::default();
+        match self.roll(&mut call) {
+            Err(Error::JobsOut) => {
+                let jobs = std::mem::take(&mut self.jobs);
+                jobs.numbers().try_for_each(|number| self.handle.forget(number))?;
+                self.roll(call)
+            }
+            gone => gone,
         }
-        Ok(frames)
     }
 
     /// Makes a call that rolls, and carries out what it asks for.

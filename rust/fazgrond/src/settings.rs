@@ -1,19 +1,19 @@
+use crate::raw;
 use crate::row::PLAYERS;
-use std::mem::size_of;
 
 /// How a session is opened.
 #[derive(Clone, Debug)]
 #[repr(C)]
 pub struct Settings {
-    size: u32,
-    profile: u32,
-    players: u32,
-    local: u32,
-    threshold: u32,
-    limit: u32,
-    log: u32,
-    delays: [u32; PLAYERS],
-    masks: [u32; PLAYERS],
+    pub(crate) size: u32,
+    pub(crate) profile: u32,
+    pub(crate) players: u32,
+    pub(crate) local: u32,
+    pub(crate) threshold: u32,
+    pub(crate) limit: u32,
+    pub(crate) log: u32,
+    pub(crate) delays: [u32; PLAYERS],
+    pub(crate) masks: [u32; PLAYERS],
 }
 
 impl Settings {
@@ -24,27 +24,13 @@ impl Settings {
     ///
     /// If a local player isn't one of 1 to 8.
     pub fn new(players: u8, local: &[u8]) -> Settings {
-        let settings = Settings {
-            size: size_of::<Settings>() as u32,
-            profile: 0,
-            players: players.into(),
-            local: local.iter().fold(0, |bits, player| bits | 1 << place_of(*player)),
-            threshold: 8,
-            limit: 1_048_576,
-            log: 16_777_216,
-            delays: [0; PLAYERS],
-            masks: [u32::MAX; PLAYERS],
-        };
-        if players > 4 {
-            settings.wide().threshold(15)
-        } else {
-            settings
-        }
+        let local = local.iter().fold(0, |bits, player| bits | 1 << place_of(*player));
+        Settings { local, ..Settings::made(players.into()) }
     }
 
     /// The wide limits: 8 players, and a threshold of 15 frames.
     pub fn wide(self) -> Settings {
-        Settings { profile: 1, ..self }
+        Settings { profile: raw::WIDE, ..self }
     }
 
     /// How many frames the session may run ahead of the confirmed words.
@@ -80,11 +66,6 @@ impl Settings {
     /// The most accepted calls.
     pub fn log(self, calls: u32) -> Settings {
         Settings { log: calls, ..self }
-    }
-
-    /// What an epoch has of them too: the threshold, and the delays.
-    pub(crate) fn of_epoch(&self) -> (u32, [u32; PLAYERS]) {
-        (self.threshold, self.delays)
     }
 }
 

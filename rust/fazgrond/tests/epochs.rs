@@ -65,6 +65,7 @@ fn machine(me: u8) -> Machine {
     let epoch = Epoch::first(&of(me), &settings);
     assert_eq!((&epoch.owners[..], &epoch.delays[..]), (&[Some(0), Some(1)][..], &[0, 0][..]));
     assert_eq!((epoch.id, epoch.base, epoch.words, epoch.threshold, epoch.machines), (0, 0, 1, 8, 2));
+    assert_eq!((0..=255).filter(|machine| epoch.has(*machine)).collect::<Vec<u8>>(), [0, 1]);
     let peer = Peer::open_lasting(&mut session, &of(me), &epoch).unwrap();
     assert_eq!((peer.epoch(), stayed(&peer)), (Some(epoch.clone()), Vec::new()));
     let mut line = Line::open(&line_of(me, 21)).unwrap();
@@ -131,8 +132,11 @@ impl Machine {
         let frame = self.frame();
         if self.peer.is_running() && frame < FRAMES {
             if let Some(mark) = mark {
-                self.peer.mark(&self.session, self.me + 1, mark).unwrap();
-                assert_eq!(self.peer.mark(&self.session, self.me + 1, mark), Err(Error::Marked));
+                let is_void = (self.me, now) == (1, 80 * TURN) && self.is_watched;
+                let again = Err(if is_void { Error::WrongTicket } else { Error::Marked });
+                let first = self.peer.mark(&self.session, self.me + 1, mark);
+                assert_eq!(first, if is_void { again } else { Ok(()) });
+                assert_eq!(self.peer.mark(&self.session, self.me + 1, mark), again);
                 assert_eq!(self.peer.mark(&self.session, 2 - self.me, mark), Err(Error::InvalidPlayer));
             }
             let _ = self.session.add_local_input(self.me + 1, word_of(self.me, frame));
@@ -146,7 +150,7 @@ impl Machine {
     }
 }
 
-/// Which mark a machine puts in a turn. The second one is void, since its tag isn't that of its name. Nobody gets a player by the third
+/// Which mark a machine puts in a turn. The second one isn't put, since its tag isn't that of its name. Nobody gets a player by the third
 /// one, for none is free.
 fn mark_in(turn: u32, me: u8) -> Option<Mark> {
     match (turn, me) {

@@ -102,7 +102,7 @@ fn nobody_is_gone_whose_line_breaks() {
 #[test]
 fn a_peer_that_does_not_carry_has_nothing_more_to_send() {
     let mut session = Session::open(&Settings::new(2, &[1]), Sum(0)).unwrap();
-    let of = Match::new(2, 0, &[0, 1], 5);
+    let of = Match::new(2, 0, &[0, 1], 5).number(7);
     assert!(Peer::open(&mut session, &of).unwrap().send_more().is_none());
     assert!(Peer::open_carrying(&mut session, &of).unwrap().send_more().is_none());
 }

@@ -4,8 +4,8 @@
 mod random_numbers;
 
 use fazgrond::{
-    Datagram, Done, Error, Event, Game, Handle, Line, LineSettings, Match, Peer, Plays, RemoteWord, Row, Session,
-    Settings, Viewer,
+    bye, Datagram, Done, Error, Event, Field, Game, Handle, Line, LineSettings, Match, Peer, Plays, RemoteWord, Row,
+    Session, Settings, Viewer,
 };
 use random_numbers::Random;
 use std::collections::BTreeMap;
@@ -352,12 +352,12 @@ fn a_machine_leaves() {
     let mut scene = Scene::new(false);
     scene.play_to(50);
     let [one, two] = &mut scene.machines;
-    assert!(one.peer.bye(0).is_none() && one.peer.bye(7).is_none());
-    let bye = one.peer.bye(1).unwrap();
-    two.peer.receive(&mut two.session, &bye, scene.turn * TURN).unwrap();
-    assert_eq!(two.peer.receive(&mut two.session, &bye, scene.turn * TURN), Err(Error::MachineGone));
+    assert!(one.peer.bye(0, bye::LEAVES).is_none() && one.peer.bye(7, bye::LEAVES).is_none());
+    let farewell = one.peer.bye(1, bye::OWN).unwrap();
+    two.peer.receive(&mut two.session, &farewell, scene.turn * TURN).unwrap();
+    assert_eq!(two.peer.receive(&mut two.session, &farewell, scene.turn * TURN), Err(Error::MachineGone));
     two.peer.turn(&mut two.session, scene.turn * TURN).unwrap();
-    assert_eq!(two.peer.event(), Some(Event::Left { machine: 0 }));
+    assert_eq!(two.peer.event(), Some(Event::Left { machine: 0, bye: bye::OWN }));
     assert_eq!(two.peer.event(), Some(Event::Disconnected { player: 1 }));
     assert!(two.peer.send(&two.session, 0, scene.turn * TURN).unwrap().is_none());
     let said = scene.watched.line.bye().unwrap();
@@ -391,12 +391,41 @@ fn a_machine_that_stops_is_gone() {
     }
     let last = 19 * TURN; // when machine 1 heard the other one, which answered what it had sent in the turn before
     let (first, second) = match told[..] {
-        [(first, 1, Event::Interrupted { machine: 0, .. }), (second, 1, Event::Left { machine: 0 }), ..] => {
+        [(first, 1, Event::Interrupted { machine: 0, .. }), (second, 1, Event::Left { machine: 0, bye: 0 }), ..] => {
             (first, second)
         }
         _ => panic!("{told:?}"),
     };
     assert!((750..800).contains(&(first - last)) && (4900..5200).contains(&(second - last)), "{told:?}");
+}
+
+/// What the second of two machines is told before the match begins, whose matches are these.
+fn told_of(matches: [Match; 2]) -> Vec<Event> {
+    let mut at = 0;
+    let mut both = matches.map(|of| {
+        let mut handle = Handle::open(&settings_of(at)).unwrap();
+        at += 1;
+        let peer = Peer::open(&mut handle, &of).unwrap();
+        (handle, peer)
+    });
+    for turn in 0..20 {
+        let (me, other) = (turn % 2, 1 - turn % 2);
+        let (handle, peer) = &mut both[me];
+        peer.poll(handle, turn as u32 * TURN).unwrap();
+        let sent = peer.send(handle, other as u8, turn as u32 * TURN).unwrap();
+        let (handle, peer) = &mut both[other];
+        sent.map(|bytes| peer.receive(handle, &bytes, turn as u32 * TURN));
+        assert!(!peer.is_running());
+    }
+    std::iter::from_fn(|| both[1].1.event()).collect()
+}
+
+#[test]
+fn matches_that_differ() {
+    let of = |me: u8| match_of(me, 70 + u64::from(me)).opening(5);
+    for (other, field) in [(of(1).digest(9), Field::Digest), (of(1).opening(6), Field::Opening)] {
+        assert!(told_of([of(0), other]).contains(&Event::Mismatch { machine: 0, field }));
+    }
 }
 
 #[test]
@@ -406,7 +435,9 @@ fn matches_that_cant_be() {
     assert_eq!(refused(match_of(0, 0)), Error::InvalidRequest);
     assert_eq!(refused(match_of(1, 1)), Error::InvalidPlayer);
     assert_eq!(refused(match_of(2, 1)), Error::InvalidMachine);
-    assert_eq!(refused(Match::new(2, 0, &[0, 1, 1], 1)), Error::InvalidPlayer);
+    assert_eq!(refused(Match::new(2, 0, &[0, 1, 1], 1).number(7)), Error::InvalidPlayer);
+    assert_eq!(refused(Match::new(2, 0, &OWNERS, 1)), Error::NoNumber);
+    assert_eq!(refused(match_of(0, 1).words(2)), Error::TwoOwners);
     assert!(Line::open(&LineSettings::new(9, 0, 0, 2, &OWNERS)).is_err());
     assert!(Viewer::open(&LineSettings::new(9, 1, 2, 2, &OWNERS)).is_err());
 }
