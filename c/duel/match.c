@@ -42,9 +42,10 @@ static const char usage[] =
     "  --door        the broker has a door: codes are short, who joins has to be let in, and relays are the door's\n"
     "  --begin-with N    with --host and --rejoin: the match begins once N are there, and who comes later has a ship too\n";
 
-enum { TURN = 16667, PAST_LAST = 32, LINES = 12, WIDE = 78 /* signs of a line */, MOST_BEHIND = 6, CATCH_UP = 8, TIMEOUT = 5000, TIMEOUT_ONLINE = 10000,
+enum { TURN = 16667, PAST_LAST = 32, LINES = 12, WIDE = 78 /* signs of a line */, MOST_BEHIND = 6, CATCH_UP = 8,
+       TIMEOUT = FAZGROND_SILENT_AFTER, TIMEOUT_ONLINE = 10000,
        LATE = 60000 /* milliseconds for which who was never heard is waited for once its time is over */,
-       ENDING = 90 /* turns in which the others can find a desync, too */ };
+       ENDING = 90 /* turns in which the others can find that, too */ };
 
 /* What is told of a player: `number` counts down the seconds until `until`, if that isn't 0. */
 typedef struct telling {
@@ -63,7 +64,7 @@ static struct {
     int wait;                /* turns to wait, since this machine is ahead */
     bool is_over;            /* the match can't go on, */
     char why[192];           /* for this reason */
-    bool has_parted;         /* there was a desync, .. */
+    bool has_parted;         /* there was a desync, or another match is meant, .. */
     int ending;              /* .. and it is over after so many turns */
     bool is_heard[DUEL_SHIPS + 1], has_strangers;
     uint64_t over_at;        /* then it is over, as this player is missing; 0: none is */
@@ -158,14 +159,18 @@ static void count_down(void) {
     }
 }
 
-/* The match can't go on. */
-static void end(const char *why, int number) {
+static void tell_end(const char *why, int number) {
     char text[160];
-    if (self.is_over)
-        return;
     snprintf(text, sizeof text, why, number);
     snprintf(self.why, sizeof self.why, "the match is over: %s", text);
     fprintf(stderr, "%s\n", self.why);
+}
+
+/* The match can't go on. */
+static void end(const char *why, int number) {
+    if (self.is_over)
+        return;
+    tell_end(why, number);
     self.is_over = true;
 }
 
@@ -193,7 +198,7 @@ static void say_missing(int player) {
 }
 
 static void look_at_missing(void) {
-    if (self.over_at == 0 || micros() < self.over_at)
+    if (self.over_at == 0 || self.has_parted || micros() < self.over_at)
         return;
     end(self.has_strangers ? "player %d isn't there; datagrams came of another version, game, number of players or --match"
         : self.is_heard[self.missing] || self.online.players > 0
@@ -201,23 +206,35 @@ static void look_at_missing(void) {
             : "player %d hasn't come", self.missing);
 }
 
-/* It plays no more, but goes on for a while, so that the others see that the states have parted. */
+/* It plays no more, but goes on for a while, so that the others see it too. */
+static void stay(void) {
+    self.has_parted = true;
+    self.ending = ENDING;
+}
+
 static void part(int player, int frame) {
     if (self.has_parted)
         return;
-    self.has_parted = true;
-    self.ending = ENDING;
+    stay();
     if (player > 0)
         say(player, " has another state", 0);
     snprintf(self.why, sizeof self.why, "desync: the states have parted by frame %d", frame);
     fprintf(stderr, "%s\n", self.why);
 }
 
-/* Of who leaves once the states have parted it is known why. */
+/* What another one means by the match differs. */
+static void differ(int field, int player) {
+    if (self.has_parted)
+        return;
+    stay();
+    tell_end(field == FAZGGPO_FIELD_OPENING ? "player %d begins from another state" : "player %d means another match", player);
+}
+
+/* Of who leaves after that it is known why. */
 static void say_left(int player) {
     online_left(player);
     if (self.has_parted && player <= self.players)
-        say(player, " has left, as the states have parted", 0);
+        say(player, " has left too", 0);
     else
         say(player, " has left", 0);
 }
@@ -265,7 +282,7 @@ static bool on_event(GGPOEvent *event) {
     case GGPO_EVENTCODE_CONNECTION_RESUMED: say_heard(event->u.connection_resumed.player); break;
     case FAZGGPO_EVENTCODE_EPOCH: tell_epoch(event->u.epoch.frame, event->u.epoch.came); break;
     case FAZGGPO_EVENTCODE_DESYNC: part(event->u.desync.player, event->u.desync.frame); break;
-    case FAZGGPO_EVENTCODE_MISMATCH: end("player %d means another match", event->u.mismatch.player); break;
+    case FAZGGPO_EVENTCODE_MISMATCH: differ(event->u.mismatch.field, event->u.mismatch.player); break;
     case FAZGGPO_EVENTCODE_DROPPED: end("the others regard this machine as gone, or too few are heard", 0); break;
     case FAZGGPO_EVENTCODE_MISSING: say_missing(event->u.missing.player); break;
     case FAZGGPO_EVENTCODE_STRANGERS: say_strangers(event->u.strangers.player, event->u.strangers.count); break;
@@ -539,6 +556,7 @@ static bool set_up(void) {
         fazggpo_tell_missing(self.session);
     if (self.match > 0)
         fazggpo_set_match(self.session, (uint64_t)self.match);
+    fazggpo_set_opening(self.session, duel_checksum(&self.now.field));
     if (self.can_rejoin && !GGPO_SUCCEEDED(fazggpo_rejoin(self.session)))
         return false;
     return GGPO_SUCCEEDED(fazggpo_set_line(self.session, (int)self.lag, (int)self.loss, (int)self.junk))

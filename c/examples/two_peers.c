@@ -157,7 +157,7 @@ int main(void) {
         printf("machine %" PRIu32 ": settled %" PRIu32 " state %" PRIu64 "%s\n", me, both[me].settled,
                both[me].settled_state, both[me].rerun > FRAMES ? ", after rollbacks" : "");
     /* machine 0 leaves, and says so three times */
-    must(fazgrond_peer_bye(&both[0].peer, 1, bytes, sizeof bytes, &length));
+    must(fazgrond_peer_bye(&both[0].peer, 1, FAZGROND_BYE_LEAVES, bytes, sizeof bytes, &length));
     for (int time = 0; time < 3; time++)
         send_to(&both[1], turn, bytes, length);
     for (; both[1].alone == 0; turn++)

@@ -99,6 +99,7 @@ static void tell(GGPOSession *session, const fazgrond_event *event) {
     log_event(session, event);
     if (is_logged_alone(session, event->code))
         return;
+    session->has_desync |= event->code == FAZGROND_DESYNC;
     if (event->code == FAZGROND_SYNCHRONIZING || event->code == FAZGROND_SYNCHRONIZED)
         tell_connected(session, event);
     if (is_vacant(session, event) || (event->code == FAZGROND_DISCONNECTED && !note_left(session, (int)event->player)))

@@ -14,10 +14,15 @@ uint64_t ggponet_hash_bytes(uint64_t hash, const void *bytes, size_t count) {
     return hash;
 }
 
-static uint64_t hash_of(const char *name, int players, int input_size) {
+static uint64_t hash_of(const char *name, const char *more) {
+    return ggponet_hash_bytes(ggponet_hash_bytes(0xcbf29ce484222325u, name, strlen(name)), more, strlen(more));
+}
+
+/* The size of inputs is in it, since inputs of other sizes may have as many words. */
+static uint64_t digest_of(const char *name, int players, int input_size) {
     char text[64];
-    int count = snprintf(text, sizeof text, " ggponet 1 players %d input %d", players, input_size);
-    return ggponet_hash_bytes(ggponet_hash_bytes(0xcbf29ce484222325u, name, strlen(name)), text, (size_t)count);
+    (void)snprintf(text, sizeof text, " ggponet 1 players %d input %d", players, input_size);
+    return hash_of(name, text);
 }
 
 /* How many words an input has: its last bytes may be none of the game's. */
@@ -59,10 +64,10 @@ GGPOErrorCode ggponet_make_session(GGPOSession **session, const GGPOSessionCallb
     made->players = players;
     made->input_size = input_size;
     made->words = words_for(input_size);
-    made->digest = hash_of(game, players, input_size);
-    made->number = made->digest;
-    made->silent_after = 5000;
-    made->notify_after = 750;
+    made->digest = digest_of(game, players, input_size);
+    made->number = hash_of(game, " ggponet 1 match") | 1; /* who has other terms is heard, and told of */
+    made->silent_after = FAZGROND_SILENT_AFTER;
+    made->notify_after = FAZGROND_NOTIFY_AFTER;
     made->at = -1;
     made->noted = UINT32_MAX;
     made->start = ggponet_real_micros();

@@ -102,18 +102,30 @@ enum {
     /* GGPO hasn't these. */
     FAZGGPO_EVENTCODE_MACHINE_LEFT = 1101, /* a machine is gone for good; its players are told by 1004 */
     FAZGGPO_EVENTCODE_DESYNC = 1102,       /* the checksums of a frame differ, whose inputs are all known: end the match */
-    FAZGGPO_EVENTCODE_MISMATCH = 1103,     /* another machine, or who is watched, has other players or inputs: it can't play */
+    FAZGGPO_EVENTCODE_MISMATCH = 1103,     /* another machine, or who is watched, has other players, inputs or opening: it can't
+                                            * play */
     FAZGGPO_EVENTCODE_DROPPED = 1104       /* the match is over here: another machine takes this one for gone, or it was cut off
                                             * for too long */
 };
 
 /* Of a session that asks for them (fazggpo_tell_missing), after the disconnect timeout. A machine hasn't come: it is waited for. And so
- * many datagrams came in the place of its own that aren't of this match: with another number (fazggpo_set_match), another name of the
- * game, number of players or size of inputs, or of another version. */
+ * many datagrams came in the place of its own that aren't of this match: with another number (fazggpo_set_match) or another name
+ * of the game, or of another version. */
 enum { FAZGGPO_EVENTCODE_MISSING = 1108, FAZGGPO_EVENTCODE_STRANGERS = 1110 };
 
 /* Of a match into which players come back (fazggpo_rejoin): another part of it has begun, with who is there now. */
 enum { FAZGGPO_EVENTCODE_EPOCH = 1201 };
+
+/* What another machine has otherwise: how many machines there are, who sits where, how many words of 4 bytes an input has, whether players
+ * can come back (fazggpo_rejoin), the size of inputs or the game, the opening state (fazggpo_set_opening). */
+enum {
+    FAZGGPO_FIELD_MACHINES = 1,
+    FAZGGPO_FIELD_SEATS = 2,
+    FAZGGPO_FIELD_WORDS = 4,
+    FAZGGPO_FIELD_REJOIN = 5,
+    FAZGGPO_FIELD_GAME = 3,
+    FAZGGPO_FIELD_OPENING = 6
+};
 
 /* A machine is told by its first player, a spectator by its handle, and to a spectator its host by 0. */
 typedef struct GGPOEvent {
@@ -152,8 +164,7 @@ typedef struct GGPOEvent {
         } desync;
         struct {
             GGPOPlayerHandle player;
-            int field; /* what is another one there: 1 how many machines, 2 who sits where, or how many words of 4 bytes an input has, 3
-                        * the size of inputs, or the game; at a spectator 0, as that isn't known */
+            int field; /* what is another one there: the first of FAZGGPO_FIELD_.. that is; at a spectator 0, as that isn't known */
         } mismatch;
         struct {
             GGPOPlayerHandle player;
@@ -272,13 +283,18 @@ GGPO_API const char *__cdecl ggpo_last_error(GGPOSession *session);
 
 /* The match's number, before the match opens. Each packet is sealed with it, so who doesn't know it can't make one: a lobby
  * should draw 64 random bits for the machines of a match, and tell them to these alone. GGPO has no such number. Without this
- * call it is made of the game's name, the number of players and the size of inputs, which anyone can guess. Then all that keeps
+ * call it is made of the game's name, which anyone can guess. Then all that keeps
  * others out is that a packet has to come from the address of a player, as in GGPO; and addresses can be forged. Matches with one
  * number don't get mixed up: each session draws bits of its own, which its packets are sealed with too. So a rematch on the same
  * addresses needs no other number, and old packets are no matter. */
 GGPO_API GGPOErrorCode __cdecl fazggpo_set_match(GGPOSession *session, uint64_t number);
 
-/* The same for spectators, in the place of the match's number. Each line of a host and a spectator has a number of its own,
+/* A digest of the state in which this game begins, before the match opens. Machines and spectators with other ones are told
+ * FAZGGPO_EVENTCODE_MISMATCH, and no match begins. It is for the game to say: GGPO has a state saved with the first input and not before, so
+ * that a game may make it as late as GGPO_EVENTCODE_RUNNING. 0, as without this call: none. Who comes back or later says the same. */
+GGPO_API GGPOErrorCode __cdecl fazggpo_set_opening(GGPOSession *session, uint64_t digest);
+
+/* A number for spectators, in the place of the match's number. Each line of a host and a spectator has a number of its own,
  * which is made of this one and the spectator's port. Without this call it is made of the match's number: then a spectator has
  * to know that, and say it by fazggpo_set_match, so that it could make packets in the name of a player. A lobby should draw one
  * more number for each match: its machines call fazggpo_set_match with the first and this one with the second, its spectators

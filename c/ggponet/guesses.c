@@ -140,17 +140,22 @@ void ggponet_take_jobs(GGPOSession *session) {
             take_job(session, &session->guesses->job[at]);
 }
 
-/* The session of the epoch that is over has forgotten all jobs. What a helper has fetched it runs to its end, for nothing. */
+/* What a helper has fetched it runs to its end, for nothing: it writes to no slot. */
 void ggponet_leave_jobs(GGPOSession *session) {
     for (int at = 0; session->guesses != NULL && at < MOST_JOBS; at++) {
         FazggpoJob *job = &session->guesses->job[at];
-        int waiting = WAITING;
-        bool was_waiting = atomic_compare_exchange_strong(&job->stage, &waiting, IDLE);
-        if (was_waiting || waiting == DONE)
+        int stage = WAITING;
+        bool was_waiting = atomic_compare_exchange_strong(&job->stage, &stage, IDLE);
+        if (stage != IDLE && !job->is_past)
+            fazgrond_forget(&session->rollback, job->number);
+        if (was_waiting || stage == DONE)
             drop(session, job);
         else
-            job->is_past = waiting == FETCHED;
+            job->is_past = stage == FETCHED;
     }
+}
+
+void ggponet_note_epoch(GGPOSession *session) {
     for (int at = 0; session->guesses != NULL && at < FAZGROND_PLAYERS; at++)
         session->guesses->habit[at].known = 0;
 }

@@ -122,6 +122,7 @@ struct GGPOSession {
     bool has_begun;
     uint64_t number;
     uint64_t digest;
+    uint64_t opening;
     uint32_t silent_after;
     uint32_t notify_after;
     bool tells_missing;
@@ -148,6 +149,8 @@ struct GGPOSession {
     fazgrond_epoch epoch;
     faz_hosting hosting;
     faz_comer comer;
+
+    bool has_desync; /* was told of one: then its bye says so */
 
     /* Spectators, and what is watched if this session is one. */
     fazgrond_line line[GGPO_MAX_SPECTATORS];
@@ -367,8 +370,10 @@ void ggponet_run_sync_test(GGPOSession *session);
 void ggponet_take_jobs(GGPOSession *session);
 /* Jobs for helpers are made, after an advance. */
 void ggponet_make_jobs(GGPOSession *session);
-/* The jobs of an epoch that is over are none any more. */
+/* The jobs of an epoch that is over are given up. */
 void ggponet_leave_jobs(GGPOSession *session);
+/* Another epoch has begun, and words are counted anew. */
+void ggponet_note_epoch(GGPOSession *session);
 /* Whether a job of such an epoch, which a helper still runs, takes a state over that it began with. */
 bool ggponet_keep_state(GGPOSession *session, const saved *state);
 /* A state that a rollback goes on from: it is counted if a helper made it. */

@@ -84,6 +84,7 @@ static fazgrond_match the_match(const GGPOSession *session) {
     for (int at = 0; at < FAZGROND_MACHINES; at++)
         match.numbers[at] = session->machine[at].pair.is_said ? session->machine[at].pair.number : session->number;
     match.digest = session->digest;
+    match.opening = session->opening;
     match.comers = ggponet_comers(session);
     match.silent_after = session->silent_after;
     match.notify_after = session->notify_after;
@@ -229,10 +230,10 @@ void ggponet_send_bye(GGPOSession *session, int to, const uint8_t *bytes, size_t
 
 /* Says to all other machines that this one leaves: to each by a datagram of its own. */
 static void say_bye(GGPOSession *session) {
-    uint8_t bytes[FAZGROND_DATAGRAM];
+    uint8_t bytes[FAZGROND_DATAGRAM], why = session->has_desync ? FAZGROND_BYE_DESYNC : FAZGROND_BYE_LEAVES;
     size_t length;
     for (int at = 0; at < session->machines; at++)
-        if (fazgrond_peer_bye(&session->peer, (uint8_t)at, bytes, sizeof bytes, &length) == FAZGROND_OK)
+        if (fazgrond_peer_bye(&session->peer, (uint8_t)at, why, bytes, sizeof bytes, &length) == FAZGROND_OK)
             ggponet_send_bye(session, ggponet_place_of(session, (uint32_t)at), bytes, length);
     send_more(session, ggponet_send_bye);
 }

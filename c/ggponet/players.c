@@ -105,6 +105,15 @@ GGPOErrorCode fazggpo_set_match(GGPOSession *session, uint64_t number) {
     return GGPO_OK;
 }
 
+GGPOErrorCode fazggpo_set_opening(GGPOSession *session, uint64_t digest) {
+    if (session == NULL)
+        return GGPO_ERRORCODE_INVALID_SESSION;
+    if (session->is_open)
+        return ggponet_is_too_late(session, "the opening's digest");
+    session->opening = digest;
+    return GGPO_OK;
+}
+
 GGPOErrorCode fazggpo_set_spectators(GGPOSession *session, uint64_t number) {
     if (session == NULL)
         return GGPO_ERRORCODE_INVALID_SESSION;

@@ -144,14 +144,23 @@ static void remember_rows(GGPOSession *session) {
         remember_row(session, &row);
 }
 
+/* As fazgrond_peer_go_on. Jobs are given up once the epoch is over. */
+static int32_t begin_next(GGPOSession *session) {
+    uint32_t frames = 0;
+    int32_t answer = fazgrond_peer_go_on(&session->peer, &session->rollback, &frames);
+    if (answer != FAZGROND_JOBS_OUT)
+        return answer;
+    ggponet_leave_jobs(session);
+    return fazgrond_peer_go_on(&session->peer, &session->rollback, &frames);
+}
+
 /* Whether this epoch is over, as fazgrond_peer_go_on says. All rows of it are played before, so that they are told afterwards; but if
  * somebody has left, only once it isn't over: rows past the end may be known then. */
 static GGPOErrorCode end_epoch(GGPOSession *session, int32_t *answer) {
-    uint32_t frames = 0;
     *answer = FAZGROND_NOTHING;
     remember_rows(session);
     if (session->is_fewer)
-        *answer = fazgrond_peer_go_on(&session->peer, &session->rollback, &frames);
+        *answer = begin_next(session);
     session->is_fewer = false;
     if (*answer != FAZGROND_NOTHING)
         return GGPO_OK;
@@ -159,7 +168,7 @@ static GGPOErrorCode end_epoch(GGPOSession *session, int32_t *answer) {
     if (code != GGPO_OK)
         return code;
     remember_rows(session);
-    *answer = fazgrond_peer_go_on(&session->peer, &session->rollback, &frames);
+    *answer = begin_next(session);
     return GGPO_OK;
 }
 
@@ -181,7 +190,7 @@ GGPOErrorCode ggponet_go_on(GGPOSession *session) {
     session->remembered = session->base; /* who is alone has settled frames past the end, which are played again */
     session->noted = UINT32_MAX;
     place_machines(session);
-    ggponet_leave_jobs(session);
+    ggponet_note_epoch(session);
     code = ggponet_carry_out_all(session, &is_stepped);
     if (code == GGPO_OK)
         tell_epoch(session);

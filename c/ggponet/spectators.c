@@ -45,6 +45,7 @@ static fazgrond_line_settings line_settings(const GGPOSession *session, const pa
     memset(&settings, 0, sizeof settings);
     settings.number = line_number(session, pair, port);
     settings.digest = session->digest;
+    settings.opening = session->opening;
     settings.silent_after = session->silent_after;
     settings.machines = 2;
     for (int at = 0; at < FAZGROND_PLAYERS; at++)

@@ -319,8 +319,8 @@ bool faz_lobby_get_peer(const faz_lobby *self, fazgrond_match *match) {
     match->digest = self->digest;
     match->comers = comers_of(&self->table);
     match->silent_after = SILENT_AFTER;
-    for (uint32_t at = 0; at < self->table.machines; at++)
-        match->numbers[at] = self->other[at].line != NULL ? faz_line_number(self->other[at].line) : 0;
+    for (uint32_t at = 0; at < self->table.machines; at++) /* with who isn't there yet: what all know who may be in the match */
+        match->numbers[at] = self->other[at].line != NULL ? faz_line_number(self->other[at].line) : match->comers;
     for (uint32_t player = 0; player < FAZGROND_PLAYERS; player++) {
         uint32_t owner = self->table.owners[player];
         match->owners[player] = mesh_is_vacant(self, owner) ? FAZGROND_NOBODY : owner;

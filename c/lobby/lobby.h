@@ -165,8 +165,9 @@ bool faz_lobby_begin(faz_lobby *lobby);
 /* The match, from FAZ_LOBBY_CONNECTING on. False: it isn't known yet. */
 bool faz_lobby_get_match(const faz_lobby *lobby, faz_lobby_match *match);
 
-/* The same as settings of a peer: `me`, `machines`, owners, numbers, digest and comers, and silent_after 10,000. `draw` is for you to
- * set. Players of a vacant machine are nobody's (FAZGROND_NOBODY), which fazgrond_peer_open_lasting takes. */
+/* The same as settings of a peer: `me`, `machines`, owners, numbers, digest and comers, and silent_after 10,000. `draw` and `opening` are
+ * for you to set. Players of a vacant machine are nobody's (FAZGROND_NOBODY), which fazgrond_peer_open_lasting takes, and the number with it is that
+ * of `comers`. */
 bool faz_lobby_get_peer(const faz_lobby *lobby, fazgrond_match *match);
 
 /* Sends a datagram of FAZGROND_DATAGRAM bytes at most to a machine. False, and lost: as faz_line_send, or there is no such line. */

@@ -70,7 +70,7 @@ static struct {
     const char *options, *ports, *save, *key, *join, *watch, *play, *view;
     long from_frame, host, machines, viewers, seats, delays[SEATS], threshold, helpers, hold, port, timeout, frames, bot, lag, jitter, loss, speed;
     bool is_verbose, is_unchecked, goes_again, lasts;
-} self = { .machines = 2, .seats = 1, .delays = { 1, 1 }, .helpers = -1, .hold = -1, .timeout = 5000, .speed = 1, .from_frame = -1,
+} self = { .machines = 2, .seats = 1, .delays = { 1, 1 }, .helpers = -1, .hold = -1, .timeout = FAZGROND_SILENT_AFTER, .speed = 1, .from_frame = -1,
            .wish = { .broker = "nats://127.0.0.1:4222" } };
 
 static const option options[] = {

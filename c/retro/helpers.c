@@ -87,18 +87,22 @@ void helpers_end(helpers *self) {
     self->count = 0;
 }
 
-void helpers_leave(helpers *self) {
+void helpers_leave(helpers *self, fazgrond_session *session) {
     pthread_mutex_lock(&self->lock);
     self->queued = 0;
     for (int at = 0; at < JOBS; at++) {
-        while (self->jobs[at].stage == JOB_RUNS)
+        job *one = &self->jobs[at];
+        while (one->stage == JOB_RUNS)
             pthread_cond_wait(&self->done, &self->lock);
-        self->jobs[at].stage = JOB_NONE;
+        if (one->stage != JOB_NONE)
+            (void)fazgrond_forget(session, one->number);
+        one->stage = JOB_NONE;
     }
     self->certain = NULL;
-    memset(self->noted, 0, sizeof self->noted); /* its words are counted from its next frame 0 on */
     pthread_mutex_unlock(&self->lock);
 }
+
+void helpers_begin_epoch(helpers *self) { memset(self->noted, 0, sizeof self->noted); }
 
 /* Takes a job that waits out of the queue. Whether it still waited. */
 static bool take_back(helpers *self, job *one) {

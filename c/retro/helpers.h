@@ -39,8 +39,11 @@ bool helpers_begin(helpers *self, uint32_t count, bool keeps_one, const recipe *
 /* Waits until no job runs. Before the session is closed. */
 void helpers_end(helpers *self);
 
-/* The session has forgotten all jobs, or is to be closed: none is any more. Waits until none runs. */
-void helpers_leave(helpers *self);
+/* Gives all jobs up. Waits until none runs. */
+void helpers_leave(helpers *self, fazgrond_session *session);
+
+/* Words of each player are counted anew, from frame 0 of an epoch on. */
+void helpers_begin_epoch(helpers *self);
 
 /* Hands the session what is done. False if a core refused a state. */
 bool helpers_graft(helpers *self, fazgrond_session *session);

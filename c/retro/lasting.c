@@ -81,6 +81,7 @@ static void note_part(match *self, const fazgrond_epoch *epoch) {
 static void read_epoch(match *self) {
     agreement *all = &self->meeting->all;
     note_part(self, &self->lasting.epoch);
+    helpers_begin_epoch(&self->helpers);
     self->lasting.base = self->lasting.seen = all->base = (uint32_t)self->lasting.epoch.base;
     for (uint32_t player = 0; player < all->players; player++) {
         uint32_t owner = self->lasting.epoch.owners[player];
@@ -181,7 +182,6 @@ static void begin_epoch(match *self, uint32_t frames) {
     lasting *it = &self->lasting;
     match_must(self, fazgrond_peer_epoch(&self->peer, &it->epoch));
     read_epoch(self);
-    helpers_leave(&self->helpers);
     it->is_at_seam = true;
     match_obey(self);
     self->frame = it->base + frames;
@@ -215,6 +215,10 @@ void lasting_turn(match *self, uint32_t now) {
     uint32_t frames = 0;
     settle_trail(self);
     int32_t code = fazgrond_peer_go_on(&self->peer, &self->session, &frames);
+    if (code == FAZGROND_JOBS_OUT) {
+        helpers_leave(&self->helpers, &self->session);
+        code = fazgrond_peer_go_on(&self->peer, &self->session, &frames);
+    }
     if (code == FAZGROND_OK)
         begin_epoch(self, frames);
     else if (code != FAZGROND_NOTHING)
@@ -293,7 +297,7 @@ void lasting_begin(match *self) {
 }
 
 void lasting_return(match *self) {
-    helpers_leave(&self->helpers);
+    helpers_leave(&self->helpers, &self->session);
     faz_hosting_close(&self->lasting.hosting);
     fazgrond_peer_close(&self->peer);
     fazgrond_close(&self->session);

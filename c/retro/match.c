@@ -133,6 +133,7 @@ bool match_open(match *self, uint32_t me) {
     }
     match.draw = net_draw();
     match.digest = all->digest;
+    match.opening = self->wish->lasts ? 0 : self->facts->opening; /* who comes back later needn't have opened alike */
     match.silent_after = self->wish->silent_after;
     match.held_turns = self->wish->hold;
     match_must(self, fazgrond_open(&self->session, &settings));
@@ -399,7 +400,7 @@ static void react(match *self, const fazgrond_event *event) {
     case FAZGROND_RUNNING: begin(self); break;
     case FAZGROND_TIME_SYNC: self->wait = event->frames_ahead; break;
     case FAZGROND_INTERRUPTED: match_say(self, "machine %" PRIu32 " is silent", machine); break;
-    case FAZGROND_STALLED: match_say(self, "machine %" PRIu32 " gives no words", machine); break;
+    case FAZGROND_STALLED: match_say(self, "machine %" PRIu32 " holds up the match", machine); break;
     case FAZGROND_RESUMED:
         self->counted[0] = 0;
         match_say(self, "machine %" PRIu32 " is heard again", machine);
@@ -450,10 +451,11 @@ static void send_all(match *self, uint32_t now) {
 
 static void say_bye(match *self) {
     uint8_t bytes[FAZGROND_DATAGRAM];
+    uint8_t why = self->has_desync ? FAZGROND_BYE_DESYNC : self->has_failed ? FAZGROND_BYE_ERROR : FAZGROND_BYE_LEAVES;
     size_t length;
     for (uint32_t at = 0; at < FAZGROND_MACHINES; at++)
         for (int times = 0; times < BYES; times++)
-            if (fazgrond_peer_bye(&self->peer, (uint8_t)at, bytes, sizeof bytes, &length) == FAZGROND_OK)
+            if (fazgrond_peer_bye(&self->peer, (uint8_t)at, why, bytes, sizeof bytes, &length) == FAZGROND_OK)
                 send_to(self, at, bytes, length);
     send_more(self);
     for (uint32_t at = 0; at < self->open_lines; at++)

@@ -5,7 +5,7 @@
 #include <stdio.h>
 #include <string.h>
 
-enum { LETTERS = 3, HEAD = 14, KIND = 13, VERSION = 4, SUM = 16, FIRST = 4, HEAD_FIELDS = 20 + 4 * FAZGROND_PLAYERS, HELLO = 53 };
+enum { LETTERS = 3, HEAD = 14, KIND = 13, VERSION = 4, SUM = 16, FIRST = 4, HEAD_FIELDS = 20 + 4 * FAZGROND_PLAYERS, HELLO = 61 };
 
 /* The draws of the two ends of a run's line. They are always the same, since a run is read by whoever gets it, whenever. */
 enum { HOST_DRAW = 1, VIEWER_DRAW = 2 };
@@ -203,8 +203,9 @@ static bool greet(fazgrond_viewer *viewer, const fazgrond_line_settings *line) {
     for (uint32_t player = 0; player < FAZGROND_PLAYERS; player++)
         at[2 + player] = (uint8_t)line->owners[player];
     put(at + 10, line->digest, 8);
-    put(at + 18, HOST_DRAW, 8);
-    put(at + 26, VIEWER_DRAW, 8);
+    put(at + 18, line->opening, 8);
+    put(at + 26, HOST_DRAW, 8);
+    put(at + 34, VIEWER_DRAW, 8);
     seal(hello, sizeof hello, key_of(line->number));
     return fazgrond_viewer_receive(viewer, hello, sizeof hello, 0, &taken) == FAZGROND_OK;
 }

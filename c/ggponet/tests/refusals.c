@@ -220,6 +220,7 @@ static void refused_spectators(void) {
     MUST(fazggpo_get_watched(game.session, 1031, NULL) == GGPO_ERRORCODE_INVALID_REQUEST);
     MUST(fazggpo_get_watched(NULL, 1000, &frame) == GGPO_ERRORCODE_INVALID_SESSION);
     MUST(fazggpo_set_spectators(NULL, 1) == GGPO_ERRORCODE_INVALID_SESSION);
+    MUST(fazggpo_set_opening(NULL, 1) == GGPO_ERRORCODE_INVALID_SESSION);
 }
 
 /* A spectator is added before the match opens. */
@@ -348,6 +349,8 @@ static void refused_calls(void) {
     MUST(ggpo_set_disconnect_timeout(game.session, 1) == GGPO_ERRORCODE_UNSUPPORTED);
     MUST(ggpo_set_disconnect_notify_start(game.session, 1) == GGPO_ERRORCODE_UNSUPPORTED);
     MUST(fazggpo_set_match(game.session, 1) == GGPO_ERRORCODE_UNSUPPORTED);
+    MUST(fazggpo_set_opening(game.session, 1) == GGPO_ERRORCODE_UNSUPPORTED);
+    MUST(strcmp(ggpo_last_error(game.session), "the opening's digest has to be said before the match opens") == 0);
     MUST(ggpo_add_local_input(game.session, 2, inputs, sizeof inputs[0]) == GGPO_ERRORCODE_INVALID_PLAYER_HANDLE);
     MUST(ggpo_add_local_input(game.session, 1, inputs, sizeof inputs) == GGPO_ERRORCODE_INVALID_REQUEST);
     MUST(ggpo_add_local_input(game.session, 1, NULL, sizeof inputs[0]) == GGPO_ERRORCODE_INVALID_REQUEST);

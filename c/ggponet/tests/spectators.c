@@ -94,6 +94,7 @@ static GGPOSessionCallbacks calls = { .save_game_state = on_save, .load_game_sta
 static void set_up(void) {
     MUST(fazggpo_set_speed(game->session, speed) == GGPO_OK);
     MUST(ggpo_set_disconnect_timeout(game->session, timeout) == GGPO_OK);
+    MUST(fazggpo_set_opening(game->session, 5) == GGPO_OK);
     MUST(timeout != 0 || ggpo_set_disconnect_notify_start(game->session, 1000000) == GGPO_OK);
 }
 
@@ -246,18 +247,19 @@ static void silent(void) {
         close_one(me);
 }
 
-/* Viewer 1 means another game by its size of inputs. */
-static void other_game(void) {
-    unsigned char inputs[2];
+/* Viewer 1 means another game by its size of inputs, or by its opening. */
+static void other_game(int input_size, uint64_t opening) {
+    unsigned short inputs[2];
     begin(99, false);
     begin_viewer(2, 99, sizeof(short));
-    begin_viewer(3, 99, 1);
+    begin_viewer(3, 99, input_size);
+    MUST(fazggpo_set_opening(game->session, opening) == GGPO_OK);
     until(15, 3, "1103 ");
     until(15, HOST, "1004:1001 ");
     while (watched(0) < 60)
         turn(15);
     is_told(3, strncmp(games[3].events, "1000 ", 5) == 0 ? "1000 1001 1103 " : "1103 "); /* by which of the two was heard first */
-    MUST(ggpo_synchronize_input(games[3].session, inputs, sizeof inputs, NULL) == GGPO_ERRORCODE_PLAYER_DISCONNECTED);
+    MUST(ggpo_synchronize_input(games[3].session, inputs, 2 * input_size, NULL) == GGPO_ERRORCODE_PLAYER_DISCONNECTED);
     MUST(watched(1) == -1);
     for (int me = 0; me < 4; me++)
         close_one(me);
@@ -268,6 +270,7 @@ int main(int count, char **words) {
     port = atoi(words[1]);
     right();
     silent();
-    other_game();
+    other_game(1, 5);
+    other_game(sizeof(short), 6);
     return 0;
 }

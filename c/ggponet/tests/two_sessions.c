@@ -32,6 +32,9 @@ static struct game {
     GGPOSession *session;
 } games[2];
 
+/* Which field of the other's match is to be told as another one. */
+static int due_field;
+
 /* The one of whom a call is being made: GGPO's callbacks aren't told. */
 static struct game *game;
 
@@ -91,7 +94,7 @@ static bool on_event(GGPOEvent *info) {
         game->desyncs++;
     }
     if (info->code == FAZGGPO_EVENTCODE_MISMATCH) {
-        MUST(info->u.mismatch.player == (game == &games[0] ? 2 : 1) && info->u.mismatch.field == 3);
+        MUST(info->u.mismatch.player == (game == &games[0] ? 2 : 1) && info->u.mismatch.field == due_field);
         game->mismatches++;
     }
     return true;
@@ -100,24 +103,37 @@ static bool on_event(GGPOEvent *info) {
 /* Whether nothing is said of the match's number. */
 static bool has_no_number;
 
-static void begin(int me, int port, int input_size) {
+/* Of a match: its inputs' bytes, its players, how many of them sit at each place, whether players can come back, its opening. */
+typedef struct terms {
+    int input_size, players, seats;
+    bool lasts;
+    uint64_t opening;
+} terms;
+
+static const terms plain = { 1, 2, 1, false, 5 };
+
+static void begin_with(int me, int port, const terms *of) {
     GGPOSessionCallbacks calls = { .save_game_state = on_save, .load_game_state = on_load, .free_buffer = on_free,
                                    .advance_frame = on_advance, .on_event = on_event };
     GGPOPlayerHandle handle;
     game = &games[me];
     memset(game, 0, sizeof *game);
-    MUST(ggpo_start_session(&game->session, &calls, "two sessions", 2, input_size, (unsigned short)(port + me)) == GGPO_OK);
+    MUST(ggpo_start_session(&game->session, &calls, "two sessions", of->players, of->input_size, (unsigned short)(port + me)) == GGPO_OK);
+    MUST(fazggpo_set_opening(game->session, of->opening) == GGPO_OK);
     MUST(has_no_number || fazggpo_set_match(game->session, 0x1234567890abcdefu) == GGPO_OK);
     MUST(fazggpo_set_speed(game->session, SPEED) == GGPO_OK && ggpo_set_disconnect_timeout(game->session, 0) == GGPO_OK);
-    for (int player = 0; player < 2; player++) {
+    MUST(!of->lasts || fazggpo_rejoin(game->session) == GGPO_OK);
+    for (int player = 0; player < of->players; player++) {
         GGPOPlayer added = { .size = sizeof added, .type = GGPO_PLAYERTYPE_REMOTE, .player_num = player + 1 };
         memcpy(added.u.remote.ip_address, "127.0.0.1", 10);
-        added.u.remote.port = (unsigned short)(port + player);
-        if (player == me)
+        added.u.remote.port = (unsigned short)(port + player / of->seats);
+        if (player / of->seats == me)
             added.type = GGPO_PLAYERTYPE_LOCAL;
         MUST(ggpo_add_player(game->session, &added, &handle) == GGPO_OK);
     }
 }
+
+static void begin(int me, int port) { begin_with(me, port, &plain); }
 
 /* A turn of one of them. Between its own step and ggpo_advance_frame the other one may have a turn, and is heard. */
 static void turn(int me, bool has_other) {
@@ -157,7 +173,7 @@ static int settled(void) {
 static void right(int port) {
     unsigned number = 0;
     for (int me = 0; me < 2; me++)
-        begin(me, port, 1);
+        begin(me, port);
     for (int turns = 0; settled() < FRAMES && turns < 20 * FRAMES; turns++)
         turn(turns % 2, turns % 3 != 0);
     MUST(settled() >= FRAMES && games[0].again > 0 && games[1].again > 0);
@@ -171,7 +187,7 @@ static void right(int port) {
 
 static void wrong(int port) {
     for (int me = 0; me < 2; me++)
-        begin(me, port, 1);
+        begin(me, port);
     games[1].is_wrong = true;
     for (int turns = 0; (games[0].desyncs == 0 || games[1].desyncs == 0) && turns < 20 * FRAMES; turns++)
         turn(turns % 2, false);
@@ -179,15 +195,38 @@ static void wrong(int port) {
     end();
 }
 
-static void other_match(int port) {
-    for (int me = 0; me < 2; me++)
-        begin(me, port, 1 + me);
+static void are_told(void) {
     for (int turns = 0; (games[0].mismatches == 0 || games[1].mismatches == 0) && turns < 200; turns++) {
         game = &games[turns % 2];
         MUST(ggpo_idle(game->session, 20) == GGPO_OK);
     }
     MUST(games[0].mismatches > 0 && games[1].mismatches > 0 && !games[0].is_running && !games[1].is_running);
     end();
+}
+
+/* Two sessions that mean two matches. Each is told what the other has otherwise, whether the match's number is said or not. */
+static void other_match(int port, int field, const terms *one, const terms *other) {
+    for (int is_said = 0; is_said < 2; is_said++) {
+        has_no_number = is_said == 0;
+        due_field = field;
+        begin_with(0, port, one);
+        begin_with(1, port, other);
+        are_told();
+    }
+    has_no_number = false;
+}
+
+static void other_matches(int port) {
+    static const terms others[] = {
+        [FAZGGPO_FIELD_MACHINES] = { 1, 3, 1, false, 5 }, [FAZGGPO_FIELD_SEATS] = { 5, 2, 1, false, 5 }, /* two words: others' places */
+        [FAZGGPO_FIELD_GAME] = { 2, 2, 1, false, 5 },     [FAZGGPO_FIELD_WORDS] = { 4, 4, 2, false, 5 },
+        [FAZGGPO_FIELD_REJOIN] = { 1, 2, 1, true, 5 },    [FAZGGPO_FIELD_OPENING] = { 1, 2, 1, false, 6 },
+    };
+    for (int field = FAZGGPO_FIELD_MACHINES; field <= FAZGGPO_FIELD_OPENING; field++)
+        other_match(port, field, field == FAZGGPO_FIELD_WORDS ? &others[FAZGGPO_FIELD_SEATS] : &plain, &others[field]);
+    other_match(port, FAZGGPO_FIELD_GAME, &plain, &(terms){ 4, 2, 1, false, 5 });
+    other_match(port, FAZGGPO_FIELD_OPENING, &plain, &(terms){ 1, 2, 1, false, 0 });
+    other_match(port, FAZGGPO_FIELD_OPENING, &(terms){ 1, 2, 1, true, 6 }, &others[FAZGGPO_FIELD_REJOIN]);
 }
 
 static size_t log_length(int me) {
@@ -199,7 +238,7 @@ static size_t log_length(int me) {
 /* The first plays on until it has to wait for the second, which only hears. */
 static void wait_for_the_second(int port) {
     for (int me = 0; me < 2; me++)
-        begin(me, port, 1);
+        begin(me, port);
     for (int turns = 0; games[1].now.frame < 50; turns++)
         turn(turns % 2, false);
     for (int turns = 0; turns < 50; turns++) {
@@ -243,7 +282,7 @@ static void standing(int port) {
 static void again_and_again(int port) {
     has_no_number = true;
     for (int me = 0; me < 2; me++)
-        begin(me, port, 1);
+        begin(me, port);
     for (int matches = 0; matches < 10; matches++) {
         for (int turns = 0; settled() < 60; turns++) {
             MUST(turns < 2000);
@@ -257,7 +296,7 @@ static void again_and_again(int port) {
                 game = &games[1];
                 MUST(ggpo_idle(game->session, 20) == GGPO_OK);
             }
-            begin(me, port, 1);
+            begin(me, port);
         }
     }
     end();
@@ -267,7 +306,7 @@ static void again_and_again(int port) {
 static void input_twice(int port) {
     unsigned char input = 1, other = 2, inputs[2];
     for (int me = 0; me < 2; me++)
-        begin(me, port, 1);
+        begin(me, port);
     for (int turns = 0; games[0].now.frame < 50; turns++)
         turn(turns % 2, false);
     do {
@@ -305,7 +344,7 @@ int main(int count, char **words) {
     MUST(count == 2);
     right(atoi(words[1]));
     wrong(atoi(words[1]));
-    other_match(atoi(words[1]));
+    other_matches(atoi(words[1]));
     standing(atoi(words[1]));
     again_and_again(atoi(words[1]));
     input_twice(atoi(words[1]));
