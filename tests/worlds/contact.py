@@ -6,8 +6,8 @@ means the same match. All but hellos is sealed with both draws, so it is opened 
 
 Before the match a hello goes in each turn to a machine with which this one doesn't play; to one with which it plays, and of which it
 has opened no play yet, hellos and plays in turn; and then plays. A machine of which a play was opened, and that says hello with
-another draw which echoes, was *started again*: it can't come back. If no play of it was opened yet, the new draw takes the old
-one's place.
+another draw which echoes, and isn't 0, was *started again*: it can't come back. If no play of it was opened yet, the new draw takes
+the old one's place.
 
 Plays tell *clocks*: the sender's clock, the newest one of the receiver's that it heard, and how long ago. A play has them if a sixteenth
 of the patience of the two has passed since the last ones, or the 15 plays before had none. It has them also if no clock of one's own
@@ -36,6 +36,7 @@ class Hello(NamedTuple):
 class Clocks(NamedTuple):
     """The sender's clock, and what it heard of the receiver's. `number`: how many datagrams it had sent before."""
     number: int
+    frame: int
     clock: int
     heard_clock: int
     held: int
@@ -46,9 +47,9 @@ class Contact:
 
     def __init__(self):
         self.playing, self.draw, self.echo = False, 0, 0
-        self.owes_hello, self.confirmed, self.restarted = False, False, 0
+        self.owes_hello, self.confirmed, self.restarted, self.begun = False, False, 0, False
         self.patience, self.answered, self.answered_at, self.unanswered = 0, 0, 0, 0
-        self.clocks_at, self.plays_left, self.sent = 0, 0, 0
+        self.clocks_at, self.plays_left, self.sent, self.after = 0, 0, 0, 0
         self.theirs: Optional[Clocks] = None
         self.theirs_at = 0
 
@@ -64,13 +65,12 @@ class Contact:
         return False
 
     def hear_another(self, own, hello, now):
-        """A hello with another draw than the one that is believed."""
+        """A hello with another draw than the one that is believed. A draw of 0 is that of no opening."""
         if hello.echo != own.draw:
             self.owes_hello |= hello.draw != self.restarted
         elif self.confirmed:
-            news = self.restarted != hello.draw
-            self.restarted = hello.draw
-            return news
+            before, self.restarted = self.restarted, hello.draw or self.restarted
+            return before == 0 and self.restarted != 0
         else:
             self.believe(own, hello, now)
         return False
@@ -98,16 +98,20 @@ class Contact:
 
     # ---- clocks
 
-    def hear_play(self, clocks, now):
-        """A play of the draw that is believed was opened."""
+    def hear_play(self, number, clocks, now):
+        """A play of the draw that is believed was opened. Whether it is newer than all before."""
         if not self.confirmed:
             self.confirmed, self.answered_at, self.unanswered = True, now, 0
+        is_newer = number >= self.after
+        self.after = max(self.after, number + 1)
         if clocks and (self.theirs is None or self.theirs.number < clocks.number):
             if self.answered < clocks.heard_clock <= now or not holds("fresh"):
                 self.answered, self.answered_at, self.unanswered = clocks.heard_clock, now, 0
             self.theirs, self.theirs_at = clocks, now
+            self.begun |= clocks.frame > 0
+        return is_newer
 
-    def clocks(self, now):
+    def clocks(self, frame, now):
         """The clocks of the next play to it, if it has some; and the play is counted as sent. Only those count as unanswered that
         would be sent anyhow, so that ten of them take their time."""
         number = self.sent
@@ -119,7 +123,7 @@ class Contact:
             self.plays_left -= 1
             if self.silence(now) <= self.patience // 4 or not holds("quarter"):
                 return None
-        return Clocks(number, now, self.theirs.clock if self.theirs else 0, now - self.theirs_at if self.theirs else 0)
+        return Clocks(number, frame, now, self.theirs.clock if self.theirs else 0, now - self.theirs_at if self.theirs else 0)
 
     def silence(self, now):
         """For how long no newer clock came back."""

@@ -26,11 +26,11 @@ import hashlib
 from typing import NamedTuple, Optional
 
 from lines import Lines
-from mesh import PLAYERS, Mesh
+from mesh import DELAY_LIMIT, NO_END, PLAYERS, Mesh
 from rules import holds
 
 MEMBERS = 8
-THRESHOLDS, DELAYS = range(16), range(9)
+THRESHOLDS, DELAYS = range(16), range(DELAY_LIMIT + 1)
 FORGERS = 1000      # newcomers from this number on have a wrong ticket
 
 
@@ -133,8 +133,9 @@ class Epoch:
         self.terms = terms
         self.mesh = Mesh(me, terms.members, terms.owners)
         self.lines = Lines(me, terms.members, first_number)
-        self.frame, self.rows, self.heard = 0, 0, set()
+        self.frame, self.rows, self.heard, self.came = 0, 0, set(), set()
         self.mark, self.end, self.marked = None, None, False
+        self.known_end, self.looked_at = NO_END, [0] * PLAYERS
         if old:
             self.follow(old)
         for player in self.mesh.own():
@@ -191,6 +192,15 @@ class Epoch:
         if found and self.mark is None:
             frame, _, self.mark = min(found, key=lambda it: it[:2] if not holds("settled") else (it[1], it[0]))
             self.end = frame + 1
+
+    def look_for_marks(self):
+        """Notes before which frame words are of use, by the marks that are known here."""
+        for p in self.mesh.players:
+            words = self.mesh.words[p]
+            marked = (frame for frame in range(self.looked_at[p], len(words)) if words[frame][1]
+                      and not is_void(words[frame][1], self.terms.owners[p], self.terms))
+            self.known_end = min(self.known_end, next(marked, NO_END) + 1)
+            self.looked_at[p] = len(words)
 
     def is_over(self):
         """Whether all words before its end are known, and it was played up to it."""

@@ -3,7 +3,7 @@ import random
 
 from epochs import FORGERS, Mark, Terms
 from machine import Settings
-from world import Plan, PlannedMarks, RandomFates, RandomMarks, RandomWords
+from world import KeptFates, Plan, PlannedMarks, RandomFates, RandomMarks, RandomWords
 
 QUIET = 300
 OPENED = 250        # by this turn all that opened in the first turns play with each other
@@ -35,7 +35,7 @@ class Scene:
         self.copies = draw.choice([0, .05])
         silent_after = silent_after or draw.choice([3000, 3100, 5000])
         self.silent_turns = silent_after * 3 // 50
-        self.settings = Settings(silent_after, 150, 1000, draw.choice([0, 0, 4000]), draw.choice([0, (1 << 32) - 3]))
+        self.settings = Settings(silent_after, 150, draw.choice([0, 0, 4000]), draw.choice([0, (1 << 32) - 3]))
         self.happenings, self.down, self.claims, self.triggers = [], set(), {}, {}
         self.limit, self.apart, self.liar, self.quiet, self.breaks = None, 0, None, 0, True
         extra = [draw.randrange(self.count) for _ in range(draw.choice([0, 0, 1, 2]))]
@@ -210,6 +210,32 @@ def forges(seed):
     scene.lines(0, scene.some_down(scene.machines, [m for m in scene.machines if m != one], opening=True))
     scene.live(scene.machines)
     return scene.plan()
+
+
+def floods(seed):
+    """One machine hands on nothing, and gives all others more to hand on than there is room for. Some lines never work, but there are
+    ways round it."""
+    scene = Scene(seed, "floods", machines=(4, 5, 6), turns=500)
+    for m in scene.machines:
+        scene.at(min(m, 1), "open", m, scene.bits())
+    scene.at(60, "swallow", 0)
+    scene.at(60, "flood", 0)
+    scene.lines(0, scene.some_down(scene.machines, scene.machines[1:], opening=True))
+    scene.live(scene.machines)
+    return scene.plan()
+
+
+def copies(seed):
+    """The line between two machines breaks for good. Somebody has kept what went over it last, and sends it again and again."""
+    scene = Scene(seed, "copies")
+    a, b = scene.draw.sample(scene.machines, 2)
+    turn = scene.draw.randrange(60, 200)
+    scene.open_all()
+    scene.lines(turn, {(a, b), (b, a)})
+    scene.live(scene.machines)
+    plan = scene.plan()
+    plan.fates = KeptFates(plan.fates, {(a, b), (b, a)}, turn - 1)
+    return plan
 
 
 def openings(seed):
@@ -478,6 +504,17 @@ def hard(seed):
     return scene.plan()
 
 
+def hangs(seed):
+    """Somebody gives no words any more as an epoch closes, and is heard."""
+    scene = EpochScene(seed, "hangs", machines=(3, 4, 5))
+    one = scene.draw.choice(scene.machines)
+    scene.settings, scene.limit, scene.apart = scene.settings._replace(stalled_after=2000), 150, 20
+    scene.open_all()
+    scene.triggers.setdefault(("mark", 0), []).append((scene.draw.randrange(12), "hang", one))
+    scene.live([m for m in scene.machines if m != one], [one])
+    return scene.plan()
+
+
 def parted(seed):
     """The network splits for good while epochs go on. Each machine goes on with the greater side, or ends."""
     scene = EpochScene(seed, "parted", machines=(3, 4, 5))
@@ -503,8 +540,8 @@ def parted(seed):
 class Everything(EpochScene):
     """Epochs, and lines that come and go, also those of newcomers; but each has one host to which its line works."""
 
-    def __init__(self, seed, kind="everything"):
-        super().__init__(seed, kind, silent_after=3000)
+    def __init__(self, seed):
+        super().__init__(seed, "everything", silent_after=3000)
         self.loss, self.late = self.draw.choice([0, .02, .1]), self.draw.choice([1, 3, 6])
         self.kept = set()
 
@@ -539,21 +576,6 @@ def everything(seed):
     return scene.plan()
 
 
-class Carried(Everything):
-    """As everything, but the lines of newcomers work."""
-
-    def pairs(self):
-        return Scene.pairs(self)
-
-
-def carried(seed):
-    """As everything, but newcomers have lines that work: so their hellos needn't be carried."""
-    scene = Carried(seed, "carried")
-    scene.fill()
-    scene.break_lines()
-    return scene.plan()
-
-
 KINDS = {it.__name__: it
-         for it in (lines, split, stops, deaf, swallows, forges, openings, leaps, stalls, anything, marks, returns, epochs, hard,
-                    parted, everything, carried)}
+         for it in (lines, split, stops, deaf, swallows, forges, openings, leaps, stalls, anything, marks, returns, epochs, hangs, hard,
+                    parted, everything, floods, copies)}

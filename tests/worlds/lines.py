@@ -1,7 +1,7 @@
 """Lines between machines that break: the map of them, and how datagrams are carried round.
 
-A datagram comes *straight* if the machine that sent it made it. Machine b *hears a straight* if something but a hello came straight of a
-within the last `relay_after`.
+A datagram comes *straight* if the machine that sent it made it. Machine b *hears a straight* if a play that is newer than all before came
+straight of a within the last `relay_after`.
 
 The map has an entry for each machine of the epoch: a mask of the machines that it hears straight, and a number. At first all masks
 are empty: nobody is known to hear anybody. A machine makes its own mask anew in each turn, and its number rises by one when that
@@ -29,10 +29,11 @@ left, if its maker or its receiver is gone, or if there is no room. Who gets one
 only who handed it over was heard straight.
 
 What is carried to one next machine in a turn, its own and what it hands on, goes in one datagram of at most 1,200 bytes, or in up to
-four, after the map. What goes straight to that machine, but for byes, waits to go with it if there is some, or may be: if a line of this
-machine doesn't work both ways, of those to machines that aren't shut. If it is alone then, it goes as it is. Each of these parcels
-says in four bytes for whom it is, how many steps are left, and its length. They stand in the place of the first four of the datagram,
-which are the same in all.
+four, after the map. Of what waits for that machine no maker has more than its *share*, which is these bytes divided by one less than the
+machines of the match, unless it is one datagram alone: so a liar that floods a carrier doesn't keep others from being carried. What goes
+straight to that machine, but for byes, waits to go with it if there is some, or may be: if a line of this machine doesn't work both ways,
+of those to machines that aren't shut. If it is alone then, it goes as it is. Each of these parcels says in four bytes for whom it is, how
+many steps are left, and its length. They stand in the place of the first four of the datagram, which are the same in all.
 """
 from collections import deque
 
@@ -178,9 +179,20 @@ class Lines:
         hop = receiver if sure else self.carrier(receiver, datagram.sender, shut)
         return hop is not None and self.wait(hop, (receiver, steps - holds("steps"), datagram))
 
+    def share(self):
+        """How many bytes of one maker wait for one next machine at most."""
+        return DATAGRAMS * (DATAGRAM - HEAD) // (len(self.members) - 1)
+
+    def passes_share(self, datagrams, parcel):
+        """Whether a parcel is more than its maker's share."""
+        waits = sum(other[2].size for _, parcels in datagrams for other in parcels if other[2].sender == parcel[2].sender)
+        return 0 < waits and self.share() < waits + parcel[2].size and holds("share")
+
     def wait(self, hop, parcel):
         """A parcel waits for its next machine, in the first datagram that has room for it. Whether there was room."""
         datagrams = self.waiting.setdefault(hop, [])
+        if self.passes_share(datagrams, parcel):
+            return False
         size = parcel[2].size + (0 if holds("letters") else LABEL)
         for datagram in datagrams if holds("packed") else []:
             if datagram[0] + size <= DATAGRAM:

@@ -1,15 +1,22 @@
 """A machine of a match: what it hears, its turns, and what it sends.
 
-A machine that is silent, or that could give words and gave none for `stalled_after`, is gone from then on, but only while this machine
-*hears most*: of the machines that aren't gone, itself and those of which a clock came back within the last half of `silent_after` are
-more than half; or just half, with the lowest of all among them; or there are only two. All machines of the match count from its opening
-on. A newcomer counts once a play of it was opened, and for the newcomer itself all others count.
+A machine that is silent is gone from then on. So is one that has begun and holds this one up: it could give a word, and gave none for
+`stalled_after`, or for `silent_after` more, where a third machine may keep it from that; or it took none for both together. But such words
+alone count as are of use by the marks that are known. It *has begun* once its clocks, or more words than it can give there, have shown that
+it is past its first frame, in this epoch or in an earlier one: before that, others may keep it from beginning. In an epoch that follows
+another one, so is a machine that hasn't told its clocks in it or hasn't begun, once twice `silent_after` and `stalled_after` have passed
+since the seam: whoever could keep it from that would be gone by then. But all that only while this machine *hears most*: of the machines
+that aren't gone, itself and those of which a clock came back within the last half of `silent_after` are more than half; or just half, with
+the lowest of all among them; or there are only two. All machines of the match count from its opening on. A newcomer counts once a play of
+it was opened, and for the newcomer itself all others count.
 
 If a machine is silent and this one doesn't hear most, it calls nobody gone. If the match has begun, it is *cut off*, and tells its program
 so. Once that has lasted for `silent_after`, it says bye to all that aren't gone, and ends. In the meantime its program can put out whom it
 doesn't hear, and go on with the others.
 
 Whoever leaves, or ends, says bye in three turns. It makes no turns of its own then, and so tells no map; but it still hands on.
+
+A machine *hears another straight* by a play that comes from that one itself, alone or in what it carries, and that is newer than all before.
 
 The clock of a machine goes on in its turns, as it sends, and as a hello, a play or a bye comes, carried or not. A map, and what is
 carried, is heard at the moment that the clock shows then.
@@ -20,12 +27,15 @@ from typing import NamedTuple
 from contact import Contact, Hello
 from epochs import Epoch, is_void, mask, successor
 from lines import STEPS
+from mesh import DELAY_LIMIT
 from newcomers import Had, Host, Newcomer
 from rules import holds
 import sizes
 
 HELLO, PLAY, BYE, MAP, CARRIED, LINE = "hello", "play", "bye", "map", "carried", "line"
 BYES = 3
+COMES = "comes"
+JUNK, FLOOD = 1186, 5      # bytes of what a liar gives others to hand on, and how many to each and for each in a turn
 LEAP = 1000
 
 
@@ -33,7 +43,6 @@ class Settings(NamedTuple):
     """In milliseconds; `stalled_after` is never if it is 0."""
     silent_after: int
     relay_after: int
-    join_after: int
     stalled_after: int
     first_number: int
 
@@ -56,10 +65,10 @@ class Machine:
         self.contacts, self.straight_at, self.stalls = {}, {}, {}
         self.cut_off_at, self.byes, self.over, self.why = None, 0, False, None
         self.events, self.faults = [], set()
-        self.swallows, self.hangs, self.forges, self.stopped = False, False, False, False
+        self.swallows, self.hangs, self.forges, self.floods, self.stopped = False, False, False, False, False
         self.rows, self.digests, self.chain, self.promised = {}, {}, [], []
-        self.joined, self.opened_at, self.gathered_at = None, 0, None
-        self.met, self.awaited, self.burst, self.turns = set(), set(), 0, 0
+        self.joined, self.opened_at = None, 0
+        self.met, self.burst, self.turns = set(), 0, 0
         self.clock, self.has_turned = 0, False
         self.host, self.newcomer, self.hosts = Host(self), None, []
 
@@ -79,8 +88,7 @@ class Machine:
 
     def enter(self, epoch, now):
         """It is in an epoch from now on."""
-        self.awaited = set(epoch.terms.members) - set(self.epoch.terms.members if self.epoch else ())
-        self.epoch, self.opened_at, self.gathered_at = epoch, now, None
+        self.epoch, self.opened_at, self.stalls = epoch, now, {}
         self.chain.append(epoch.terms.id)
         self.digests[epoch.terms.base] = epoch.terms.opening
         self.met |= set(epoch.terms.members)
@@ -170,14 +178,12 @@ class Machine:
         epoch = None if self.over else self.unseal(datagram)
         if epoch is None:
             return
-        if datagram.kind != HELLO:
-            self.straight_at[datagram.sender] = self.clock
         if datagram.kind == MAP:
             epoch.lines.learn(datagram.body, self.turns)
         elif datagram.kind == CARRIED:
             self.hear_parcels(epoch, datagram, now)
         else:
-            self.hear(epoch, datagram, now)
+            self.hear(epoch, datagram, now, True)
 
     def hear_line(self, datagram, now):
         """Hears what a newcomer and a host tell each other."""
@@ -197,9 +203,9 @@ class Machine:
                 self.clock = now
                 found = self.unseal(inner)
                 if found:
-                    self.hear(found, inner, now)
+                    self.hear(found, inner, now, inner.sender == datagram.sender)
 
-    def hear(self, epoch, datagram, now):
+    def hear(self, epoch, datagram, now, came_straight):
         """Hears a hello, a play or a bye."""
         sender, contact = datagram.sender, self.contacts[datagram.sender]
         if datagram.kind != HELLO or datagram.body.echo == self.draw:
@@ -209,16 +215,20 @@ class Machine:
                 self.events.append(("restarted", sender))
         elif datagram.kind == BYE:
             self.put_out(sender)
-        else:
-            self.hear_play(epoch, contact, datagram, now)
+        elif self.hear_play(epoch, contact, datagram, now) and came_straight:
+            self.straight_at[sender] = self.clock
         self.share_gone()
 
     def hear_play(self, epoch, contact, datagram, now):
-        packet, clocks = datagram.body
+        """Whether a play is newer than all before: any other may be old, and kept by somebody."""
+        packet, (number, clocks) = datagram.body
         if packet.view.gone >> self.name & 1:
             self.events.append(("dropped", datagram.sender))
-        if epoch.mesh.hear(packet):
-            contact.hear_play(clocks, now)
+        if not epoch.mesh.hear(packet):
+            return False
+        if clocks:
+            epoch.came.add(datagram.sender)
+        return contact.hear_play(number, clocks, now) or not holds("newer")
 
     # ---- a turn
 
@@ -294,34 +304,57 @@ class Machine:
         return sum(1 << m for m in epoch.terms.members if m == self.name or self.straight_at.get(m, limit - 1) >= limit)
 
     def is_silent(self, machine, now):
-        """Whether a machine is silent, by its clocks or since it hasn't come to this epoch."""
-        contact, waited = self.contacts[machine], now - self.opened_at
-        opening = self.epoch.terms.id == 0
-        if contact.confirmed or not opening and contact.playing and holds("early"):
-            return contact.is_silent(now, self.settings.silent_after)
-        if opening or contact.playing:
-            return False
-        if self.joined == self.epoch.terms.id:
-            return waited > self.settings.silent_after * (3 if holds("patient") else 1)
-        gathered = self.gathered_at if holds("gathered") else self.opened_at
-        return gathered is not None and now - gathered > self.settings.join_after and holds("join")
+        """Whether a machine is silent, by its clocks. A newcomer waits longer for those that it hasn't heard yet."""
+        contact, silent_after = self.contacts[machine], self.settings.silent_after
+        is_new = self.joined is not None and self.joined == self.epoch.terms.id
+        if contact.confirmed or is_new and contact.playing and holds("early"):
+            return contact.is_silent(now, silent_after)
+        return is_new and not contact.playing and now - self.opened_at > silent_after * (3 if holds("patient") else 1)
 
-    def gather(self, now):
-        """Notes when all that were in the epoch before, and aren't gone, were heard in this one."""
-        old = [m for m in self.epoch.mesh.staying() if m not in self.awaited]
-        if self.gathered_at is None and all(m in self.epoch.heard for m in old):
-            self.gathered_at = now
+    def has_begun(self, machine):
+        """Whether a machine has shown that it is past its first frame, where it has the words of its delay, and one more at most."""
+        mesh = self.epoch.mesh
+        return self.contacts[machine].begun or mesh.most_of(machine, mesh.counts()) > DELAY_LIMIT + 1
+
+    def follows(self):
+        """Whether it was in the epoch before."""
+        return self.epoch.terms.id not in (0, self.joined)
+
+    def is_late(self, machine, now):
+        """Whether a machine hasn't come to this epoch, which follows another one, or hasn't begun, though whoever could keep it from
+        that would be gone."""
+        stalled_after, silent_after = self.settings.stalled_after, self.settings.silent_after
+        overtime = now - self.opened_at - silent_after * (2 if holds("twice") else 1)
+        if not self.follows():
+            return False
+        if not self.contacts[machine].confirmed and overtime > 0 and holds("join"):
+            return True
+        plays_on = machine in self.epoch.came and self.has_begun(machine)
+        return not plays_on and 0 < stalled_after < overtime and holds("late")
+
+    def waits_for(self, machine):
+        """What this one waits for of a machine: that it comes to this epoch, or words; None if nothing."""
+        epoch = self.epoch
+        if not self.running:
+            return None
+        if self.follows() and self.contacts[machine].confirmed and machine not in epoch.came:
+            return COMES
+        return epoch.mesh.waits_for(machine, epoch.terms.threshold, epoch.known_end)
 
     def is_stalled(self, machine, now):
         """Whether a machine has held up the match for too long. Asked in each turn."""
+        self.contacts[machine].begun = self.has_begun(machine)
         if not self.settings.stalled_after:
             return False
-        held = self.epoch.mesh.held_up_by(machine, self.epoch.terms.threshold) if self.running else None
-        words, since, seen = self.stalls.get(machine, (None, now, now))
-        if held is None or held != words or now - seen > LEAP:
+        wait = self.waits_for(machine)
+        before, since, seen = self.stalls.get(machine, (None, now, now))
+        if wait is None or wait != before or now - seen > LEAP:
             since = now
-        self.stalls[machine] = held, since, now
-        return now - since > self.settings.stalled_after
+        self.stalls[machine] = wait, since, now
+        if wait in (None, COMES) or not self.has_begun(machine):
+            return False
+        is_kept = self.epoch.mesh.may_be_kept(machine, wait, self.epoch.terms.threshold)
+        return now - since > self.settings.stalled_after + self.settings.silent_after * is_kept
 
     def counts_among_most(self, machine):
         """Whether a machine is one of those of whom most have to be heard."""
@@ -337,10 +370,10 @@ class Machine:
 
     def look_after(self, now):
         """Silent and stalled machines are gone, or this one is cut off."""
-        self.gather(now)
+        self.epoch.look_for_marks()
         staying = self.epoch.mesh.staying()
         silent = [m for m in staying if self.is_silent(m, now)]
-        stalled = [m for m in staying if self.is_stalled(m, now)]
+        stalled = [m for m in staying if self.is_stalled(m, now) or self.is_late(m, now)]
         most = (silent or stalled) and self.hears_most(now)
         for machine in stalled if most or not holds("stalls") else []:
             self.put_out(machine)
@@ -376,9 +409,11 @@ class Machine:
         out = self.send_lines()
         if self.epoch is None:
             return out
-        contents = self.contents(now)
-        for epoch in self.epochs():
+        contents, epochs = self.contents(now), self.epochs()[::-1]
+        for epoch in epochs:
             self.send_in(epoch, contents, now, out)
+        for epoch in epochs:
+            self.send_more(epoch, out)
         self.has_turned = False
         self.byes -= self.byes > 0
         self.over = self.why is not None and not self.byes
@@ -404,7 +439,7 @@ class Machine:
             elif contact.says_hello():
                 contents[machine] = HELLO, contact.hello(self.opening())
             else:
-                contents[machine] = PLAY, contact.clocks(now)
+                contents[machine] = PLAY, (contact.sent, contact.clocks(self.epoch.frame, now))
         return contents
 
     def shut(self, epoch):
@@ -412,16 +447,20 @@ class Machine:
         return epoch.mesh.gone | mask(m for m in epoch.mesh.staying() if not self.contacts[m].playing)
 
     def send_in(self, epoch, contents, now, out):
-        """What goes out in one epoch."""
-        lines, shut, staying = epoch.lines, self.shut(epoch), epoch.mesh.staying()
+        """What goes to each machine in one epoch."""
+        lines, shut = epoch.lines, self.shut(epoch)
         if self.has_turned:
             lines.look(self.heard_straight(epoch, now), self.turns)
         if self.forges:
             lines.forge(self.turns)
-        for machine in staying:
+        for machine in epoch.mesh.staying():
             datagram = self.datagram(epoch, machine, *contents[machine]) if machine in contents else None
             if datagram:
                 self.send_one(lines, datagram, shut, out)
+
+    def send_more(self, epoch, out):
+        """The map, and what is carried, in one epoch."""
+        lines, shut, staying = epoch.lines, self.shut(epoch), epoch.mesh.staying()
         for machine in staying if self.has_turned and lines.tells_map(self.turns) else ():
             if not shut >> machine & 1:
                 entries = lines.entries()
@@ -430,6 +469,14 @@ class Machine:
             if not shut >> hop & 1:
                 is_alone = len(parcels) == 1 and parcels[0][1] == 0
                 out.append((hop, parcels[0][2] if is_alone else self.seal(epoch, hop, CARRIED, parcels, size)))
+        if self.floods:
+            out += self.flood(epoch, staying)
+
+    def flood(self, epoch, staying):
+        """What a liar gives others to hand on, which nobody can open."""
+        made = {to: Datagram(epoch.terms.id, self.name, to, PLAY, (), None, JUNK) for to in staying}
+        return [(hop, self.seal(epoch, hop, CARRIED, ((to, STEPS, datagram),), sizes.DATAGRAM))
+                for hop in staying for to, datagram in made.items() if to != hop for _ in range(FLOOD)]
 
     def send_one(self, lines, datagram, shut, out):
         """A datagram goes straight, or to a carrier, or both ways. What goes straight waits to go with what is carried to the same
@@ -454,7 +501,7 @@ class Machine:
         packet = epoch.mesh.tell(machine)
         if not holds("marks_told_on"):
             packet = self.without_marks(packet)
-        return self.seal(epoch, machine, PLAY, (packet, content), sizes.play_size(packet, content, epoch.frame))
+        return self.seal(epoch, machine, PLAY, (packet, content), sizes.play_size(packet, content[1], epoch.frame))
 
     def without_marks(self, packet):
         """A packet as it would be if only their owners told marks."""

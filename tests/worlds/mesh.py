@@ -21,6 +21,9 @@ from rules import holds
 
 PLAYERS = 8
 WORDS_IN_A_PLAY = 140
+NO_END = (1 << 32) - 1
+DELAY_LIMIT = 8
+GIVES, TAKES = "gives", "takes"
 
 
 class View(NamedTuple):
@@ -140,18 +143,37 @@ class Mesh:
 
     # ---- who holds up the match
 
-    def held_up_by(self, machine, threshold):
-        """How many words there are of a player of a machine that this one waits for, if that could give its next word; or None."""
+    def most_of(self, machine, has):
+        """The most words that there are of a machine's players, by these counts."""
+        return max((has[p] for p in self.players if self.owners[p] == machine), default=0)
+
+    def waits_for(self, machine, threshold, end):
+        """What of words this one waits for: that a machine gives its next one, if it could, or else that it takes one of this machine's;
+        and which. Words from the end on are of no use. None if it waits for neither."""
         view = self.told.get(machine)
-        if view is None or self.is_gone(machine) or not self.could_give(machine, view, threshold):
+        if view is None or self.is_gone(machine):
             return None
-        mine = max((len(self.words[p]) for p in self.own()), default=0)
-        fewest = min((len(self.words[p]) for p in self.players if self.owners[p] == machine and self.left[p] is None), default=None)
-        return fewest if fewest is not None and fewest + threshold <= mine else None
+        mine, taken = self.most_of(self.me, self.counts()), self.most_of(self.me, view.has)
+        given = min((len(self.words[p]) for p in self.players if self.owners[p] == machine and self.left[p] is None), default=end)
+        if given < end and given + threshold <= mine and self.could_give(machine, view, threshold):
+            return GIVES, given
+        return (TAKES, taken) if taken < min(mine, end) else None
+
+    def given_by(self, machine, view):
+        """How many words a machine has given that told this: no more than came here."""
+        return min(self.most_of(machine, self.counts()), self.most_of(machine, view.has))
 
     def could_give(self, machine, view, threshold):
-        """Whether no player keeps a machine that told this from giving its next word."""
-        theirs = [p for p in self.players if self.owners[p] == machine]
-        given = min(max((len(self.words[p]) for p in theirs), default=0), max((view.has[p] for p in theirs), default=0))
-        return all(given < view.has[p] + threshold or self.left[p] is not None and view.has[p] + threshold + PLAYERS < given
-                   for p in self.players)
+        """Whether no player keeps a machine that told this from giving its next word, but such as have left here."""
+        given = self.given_by(machine, view)
+        return all(given < view.has[p] + threshold or self.left[p] is not None for p in self.players)
+
+    def may_be_kept(self, machine, wait, threshold):
+        """Whether what isn't seen here may keep one from what is waited for: from taking words a mark; from going on a third machine, which is
+        silent and not gone yet, by words that came there and not here, of which one may have a mark; or by not having told there what has to
+        be told before a player leaves, who has left here."""
+        view, (what, _) = self.told[machine], wait
+        given = self.given_by(machine, view)
+        return what == TAKES or any(
+            view.has[p] > len(self.words[p]) and self.owners[p] not in (self.me, machine)
+            or self.left[p] is not None and given <= view.has[p] + threshold + DELAY_LIMIT for p in self.players)

@@ -11,10 +11,9 @@ that is among the machines of a host's epoch, and wasn't heard there, the host t
 the newcomer is in no epoch, or in its first one with nobody there, who isn't gone, whom it has heard in it. Whoever begins anew
 draws anew when it opens an epoch.
 
-A newcomer is gone if a machine doesn't play with it `join_after` after that machine has heard in the new epoch all that were in the old one
-and aren't gone: before, its host may be in the old one still. Once a machine plays with it, its silence counts as any other's, even before
-a play of it was opened. A newcomer, in its first epoch, waits three times `silent_after` for a machine with
-which it doesn't play yet, since that may be in the old epoch still.
+A newcomer is gone if no play of it was opened in twice `silent_after` from the seam on: its host may be in the old epoch still, kept for as
+long as somebody is silent. A newcomer, in its first epoch, waits three times `silent_after` for a machine with which it doesn't play yet,
+since that may be in the old epoch still; once it plays with one, that one's silence counts, even before a play of it was opened.
 """
 from typing import NamedTuple
 

@@ -12,7 +12,7 @@
 
 #include "../../c/sha256.h"
 
-enum { MACHINES = FAZGROND_MACHINES, PLAYERS = FAZGROND_PLAYERS, BYES = 3, WORDS = 16, REQUESTS = 16, MARKS = 1024 };
+enum { MACHINES = FAZGROND_MACHINES, PLAYERS = FAZGROND_PLAYERS, BYES = 3, WORDS = 67, COPIES = WORDS - 3, REQUESTS = 16, MARKS = 1024 };
 
 /* Whoever has a number from FORGERS on has a ticket of other comers. A newcomer that was proposed, and hasn't come in so many turns, is
  * proposed anew. In this many turns before the end it is noted how far each machine is. */
@@ -22,7 +22,7 @@ static const uint64_t COMERS = 0x636f6d657273;
 
 /* What becomes of the k-th datagram of a line, if it doesn't come in the next turn: it comes so many times, so many turns later. */
 typedef struct fate {
-    uint32_t place, copies, later[2];
+    uint32_t place, copies, later[COPIES];
 } fate;
 
 /* Something that happens in a turn. */
@@ -58,7 +58,6 @@ typedef struct wish {
 typedef struct put {
     uint64_t id;
     uint32_t player, frame, newcomer;
-    bool is_void;
 } put;
 
 /* A machine has one number in the text for good, its name; in each epoch it has a seat, and so have those that it plays with. What it
@@ -72,7 +71,7 @@ typedef struct machine {
     ending ending;
     uint32_t word[PLAYERS];
     fazgrond_epoch epoch;
-    uint32_t seat, names[MACHINES], met, came, gathered_at;
+    uint32_t seat, names[MACHINES], met;
     struct { uint32_t rows, frame; } looked;
     uint64_t shown_before;
     wish wish;
@@ -90,7 +89,7 @@ typedef struct guest {
 
 typedef struct world {
     bool lasts;
-    uint32_t machines, turns, threshold, silent_after, stalled_after, join_after;
+    uint32_t machines, turns, threshold, silent_after, stalled_after;
     uint32_t owners[PLAYERS], delays[PLAYERS];
     happening *happenings;
     size_t happening_count, happening_room;
@@ -128,7 +127,7 @@ static void add_fate(world *self, const uint64_t *numbers, uint32_t count) {
     fate *new = &of->fate[of->fates++];
     new->place = (uint32_t)numbers[2];
     new->copies = count - 3;
-    for (uint32_t copy = 0; copy < new->copies && copy < 2; copy++)
+    for (uint32_t copy = 0; copy < new->copies; copy++)
         new->later[copy] = (uint32_t)numbers[3 + copy];
 }
 
@@ -153,8 +152,6 @@ static void set(world *self, const char *name, const uint64_t *numbers, uint32_t
         self->silent_after = (uint32_t)numbers[0];
     else if (strcmp(name, "stalled_after") == 0)
         self->stalled_after = (uint32_t)numbers[0];
-    else if (strcmp(name, "join_after") == 0)
-        self->join_after = (uint32_t)numbers[0];
     else if (strcmp(name, "relay_after") == 0 && numbers[0] != 150)
         fail("the library's relay_after is 150");
     for (uint32_t player = 0; player < PLAYERS; player++) {
@@ -443,7 +440,7 @@ static const put *mark_of_end(const world *self, uint64_t id, uint32_t end) {
     const put *found = NULL;
     for (uint32_t one = 0; one < self->put_count; one++) {
         const put *it = &self->puts[one];
-        if (it->id == id && it->frame + 1 == end && !it->is_void && (found == NULL || it->player < found->player))
+        if (it->id == id && it->frame + 1 == end && (found == NULL || it->player < found->player))
             found = it;
     }
     return found;
@@ -458,8 +455,6 @@ static uint32_t next_name(machine *at, uint32_t seat, uint32_t newcomer) {
     fazgrond_peer_has_stayed(&at->peer, (uint8_t)seat, &has_stayed);
     if (has_stayed != 0)
         return at->names[seat];
-    if (is_owner)
-        at->came |= 1u << seat;
     return is_owner ? newcomer : NOBODY;
 }
 
@@ -467,7 +462,6 @@ static void begin_epoch(world *self, machine *at, uint32_t again) {
     uint64_t id = at->epoch.id, base = at->epoch.base;
     fazgrond_peer_epoch(&at->peer, &at->epoch);
     const put *by = mark_of_end(self, id, (uint32_t)(at->epoch.base - base));
-    at->came = 0;
     for (uint32_t seat = 0; seat < MACHINES; seat++)
         at->names[seat] = next_name(at, seat, by == NULL ? NOBODY : by->newcomer);
     drop_requests(at);
@@ -475,7 +469,7 @@ static void begin_epoch(world *self, machine *at, uint32_t again) {
     trace_epoch(at, again);
     memset(at->has_left, 0, sizeof at->has_left);
     memset(&at->looked, 0, sizeof at->looked);
-    at->rows = at->gathered_at = 0;
+    at->rows = 0;
     at->has_put = at->is_newcomer = false;
 }
 
@@ -537,9 +531,14 @@ static bool put_on(world *self, machine *at, const wish *it, uint32_t player) {
     int32_t code = fazgrond_peer_mark(&at->peer, &at->session, (uint8_t)(player + 1), &it->mark);
     if (code == FAZGROND_MARKED)
         return false;
+    if (is_void(at, it)) { /* what would be void isn't put */
+        if (code < FAZGROND_UNLIKE_DELAYS || code > FAZGROND_WRONG_TICKET)
+            fail("a void mark is put");
+        return true;
+    }
     if (code != FAZGROND_OK || self->put_count == MARKS)
         fail("a mark isn't put");
-    self->puts[self->put_count++] = (put){ at->epoch.id, player, frame, it->newcomer, is_void(at, it) };
+    self->puts[self->put_count++] = (put){ at->epoch.id, player, frame, it->newcomer };
     trace_mark(at, it, player, frame);
     return true;
 }
@@ -604,35 +603,6 @@ static bool is_another(const machine *at, uint32_t seat) { return seat != at->se
 
 static bool is_gone(const machine *at, uint32_t seat) { return (at->gone >> at->names[seat] & 1) != 0; }
 
-/* Whether all that were in the epoch before, and aren't gone, have come to this one. */
-static bool have_all_gathered(machine *at) {
-    for (uint32_t seat = 0; seat < MACHINES; seat++) {
-        bool has_stayed = is_another(at, seat) && (at->came >> seat & 1) == 0;
-        if (has_stayed && !is_gone(at, seat) && !has_given(at, seat))
-            return false;
-    }
-    return true;
-}
-
-/* Whether a newcomer isn't there yet: nothing came of it for `join_after`, or no word for far longer, in which whoever stopped meanwhile,
- * and for whom it waits, is gone. */
-static bool has_failed(const world *self, machine *at, uint32_t seat, uint32_t waited) {
-    fazgrond_stats stats;
-    bool is_newcomer = (at->came >> seat & 1) != 0 && is_another(at, seat) && !is_gone(at, seat);
-    if (!is_newcomer || has_given(at, seat) || fazgrond_peer_stats(&at->peer, (uint8_t)seat, &stats) != FAZGROND_OK)
-        return false;
-    return stats.received == 0 ? waited > self->join_after : waited > 2 * self->silent_after;
-}
-
-static void put_out_who_has_not_come(const world *self, machine *at) {
-    uint32_t now = clock_of(self, at);
-    if (at->gathered_at == 0 && at->came != 0 && have_all_gathered(at))
-        at->gathered_at = now;
-    for (uint32_t seat = 0; seat < MACHINES; seat++)
-        if (at->gathered_at != 0 && has_failed(self, at, seat, now - at->gathered_at))
-            fazgrond_peer_disconnect(&at->peer, (uint8_t)seat);
-}
-
 /* In which seat somebody sits; NOBODY if nowhere. */
 static uint32_t seat_of(const machine *at, uint32_t name) {
     for (uint32_t seat = 0; seat < MACHINES; seat++)
@@ -690,7 +660,6 @@ static void go_on_lasting(world *self, uint32_t who) {
     if (at->is_over)
         return;
     put_marks(self, who);
-    put_out_who_has_not_come(self, at);
 }
 
 static void turn(world *self, uint32_t who) {
@@ -718,7 +687,7 @@ static void send_to(world *self, uint32_t who, uint32_t seat) {
     uint8_t bytes[FAZGROND_DATAGRAM];
     size_t length;
     int32_t said = at->byes > 0
-        ? fazgrond_peer_bye(&at->peer, (uint8_t)seat, bytes, sizeof bytes, &length)
+        ? fazgrond_peer_bye(&at->peer, (uint8_t)seat, FAZGROND_BYE_LEAVES, bytes, sizeof bytes, &length)
         : fazgrond_peer_send(&at->peer, &at->session, (uint8_t)seat, clock_of(self, at), bytes, sizeof bytes, &length);
     if (said == FAZGROND_OK)
         send(self, who, at->names[seat], bytes, length);

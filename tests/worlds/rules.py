@@ -17,6 +17,7 @@ RULES = {
     "ends": "who is cut off says bye and ends",
     # lines
     "carry": "what can't go straight is carried",
+    "newer": "only a play that is newer than all before shows that its line works",
     "one_way": "it is carried too if only the way back is down",
     "probe": "where the map says that a line is down, one turn in 17 sends straight all the same",
     "odd": "one in 17, and not in 16",
@@ -33,6 +34,7 @@ RULES = {
     "together": "what goes straight goes with the parcels that wait for the same machine",
     "letters": "a parcel says for whom it is in place of its datagram's first four bytes, which are always the same",
     "full": "at most four datagrams wait for one next machine",
+    "share": "of what waits for one next machine each maker has its share at most",
     # epochs
     "settled": "a mark counts only once its row is settled",
     "first": "the mark of the first row counts, and not that of the lowest player",
@@ -44,6 +46,7 @@ RULES = {
     "given_again": "words past the end are given again",
     "map_over": "the map of the next epoch begins with the masks of the old one",
     "told_on": "the old epoch is told beside the new one",
+    "late": "who is heard, and hasn't begun in an epoch that follows another one, is gone",
     "until_heard": "it is told until all were heard in the new one, and not until all have its words",
     # newcomers
     "caught_up": "a newcomer is proposed only once it has the settled rows",
@@ -53,8 +56,8 @@ RULES = {
     "unsure": "so does one that has opened an epoch and heard nobody there who isn't gone",
     "drawn_anew": "who begins anew draws anew",
     "join": "a newcomer that doesn't come is gone",
-    "gathered": "its time begins once all old machines were heard in the new epoch",
-    "early": "the silence of a newcomer counts before a play of it was opened",
+    "twice": "it is waited for twice as long as one who is silent, since its host may be kept in the epoch before for as long",
+    "early": "for a newcomer the silence of another counts before a play of it was opened",
     "patient": "a newcomer waits longer for those that it hasn't heard yet",
     "all_count": "for a newcomer all others count among those of whom it has to hear most",
 }
@@ -63,14 +66,15 @@ RULES = {
 NEEDED = {
     "fence": ["anything"], "sets": ["anything"], "counts": ["anything"], "echo": ["openings"], "fresh": ["deaf"], "ten": ["leaps"],
     "quarter": ["swallows", "lines"], "most": ["deaf", "split"], "stalls": ["split"], "opened": ["hard"], "begun": ["openings"], "ends": ["split"],
-    "carry": ["lines"], "one_way": ["lines"], "probe": ["openings"], "odd": ["openings"], "no_carrier": ["openings", "lines"],
+    "carry": ["lines"], "newer": ["copies"], "share": ["floods"], "one_way": ["lines"], "probe": ["openings"], "odd": ["openings"], "no_carrier": ["openings", "lines"],
     "numbers": ["lines"],
     "own_entry": ["forges"], "news": ["lines"], "again": ["lines"], "in_turn": ["swallows"],
     "pass_over": ["swallows"], "sure": ["lines"], "steps": ["lines"], "packed": ["lines"], "together": ["lines"], "full": ["lines"],
     "settled": ["hard"], "first": ["hard"], "void": ["epochs"], "marks_told_on": ["hard"], "left_in_id": ["hard", "parted"],
     "seam_gone": ["hard"], "both_gone": ["hard"], "given_again": ["epochs"], "map_over": ["everything"], "told_on": ["hard"],
+    "late": ["hangs"],
     "until_heard": ["hard"], "caught_up": ["hard"], "any_host": ["hard"], "compare": ["hard"], "anew": ["hard"], "unsure": ["hard"],
-    "drawn_anew": ["hard"], "join": ["hard"], "gathered": ["hard"], "early": ["hard"],
+    "drawn_anew": ["hard"], "join": ["hard"], "twice": ["hard"], "early": ["hard"],
     "patient": ["hard"], "all_count": ["hard", "parted"],
 }
 

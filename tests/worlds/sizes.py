@@ -1,7 +1,7 @@
 """How many bytes datagrams have."""
 
 DATAGRAM = 1200
-HEAD, HELLO, BYE = 14, 53, 14
+HEAD, HELLO, BYE = 14, 61, 15
 LABEL = 4           # of a parcel: for whom it is, how many steps are left, and its length
 ENTRY = 5           # of a machine, in a map
 CLOCK = 5

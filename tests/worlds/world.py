@@ -54,6 +54,20 @@ class RandomFates:
         return (delay, delay + 1 + draw.randrange(40)) if self.copies and draw.random() < self.copies else (delay,)
 
 
+class KeptFates:
+    """As others, but what is sent over some lines in one turn comes again and again."""
+
+    EVERY, TIMES = 8, 60
+
+    def __init__(self, fates, lines, turn):
+        self.fates, self.lines, self.turn = fates, lines, turn
+
+    def of(self, a, b, k, turn):
+        """After how many turns it comes."""
+        again = range(self.EVERY, self.EVERY * self.TIMES, self.EVERY) if (a, b) in self.lines and turn == self.turn else ()
+        return self.fates.of(a, b, k, turn) + tuple(again)
+
+
 class RandomWords:
     """Three words in ten are new."""
 
@@ -233,6 +247,10 @@ class World:
     def do_forge(self, name):
         """A machine says of all others that they hear everybody."""
         self.machines[name].forges = True
+
+    def do_flood(self, name):
+        """A machine gives all others more to hand on than there is room for."""
+        self.machines[name].floods = True
 
     def do_hang(self, name):
         """A machine gives no words any more."""
