@@ -74,6 +74,7 @@ typedef struct terms {
     uint32_t machines, players, latency, loss, size;
     bool is_lying; /* place 0 gives another state than it has */
     uint32_t junk; /* so many datagrams of a stranger come to each place in a turn */
+    uint32_t unaware; /* this place doesn't know of the one behind the others, and has no line with it */
 } terms;
 
 static terms with;
@@ -88,7 +89,7 @@ static uint32_t below(uint32_t count) {
 }
 
 static terms terms_for(uint32_t machines) {
-    return (terms){ .machines = machines, .players = machines, .latency = 3, .size = 65536 };
+    return (terms){ .machines = machines, .players = machines, .latency = 3, .size = 65536, .unaware = NOBODY };
 }
 
 static uint32_t now_of(uint32_t me) { return turn * TURN + me * 1000003; }
@@ -137,9 +138,14 @@ static void keep(place *self, const fazgrond_row *row) {
 
 /* ---- Datagrams. */
 
+/* Whether two places have no line with each other: whoever comes behind the others, and who doesn't know of it. */
+static bool has_no_line(uint32_t one, uint32_t other) {
+    return (one == with.unaware && other == with.machines) || (other == with.unaware && one == with.machines);
+}
+
 static void post(uint32_t from, uint32_t to, const uint8_t *bytes, size_t length) {
     place *other = &all[to];
-    if (other->mode == OFF || below(100) < with.loss)
+    if (other->mode == OFF || has_no_line(from, to) || below(100) < with.loss)
         return;
     IS(other->on_the_way < UNDER_WAY, true);
     datagram *sent = &other->line[other->on_the_way++];
@@ -246,6 +252,8 @@ static void begin_program(uint32_t at) {
             *seat = (faz_seat){ .is_taken = true, .number = number_of(at, other), .ticket = fazgrond_ticket(COMERS, other),
                                 .players = players_of(other) };
         }
+    if (at == with.unaware)
+        self->hosting.seat[with.machines].is_taken = false;
 }
 
 static void begin_to_come(uint32_t at) {
@@ -614,6 +622,23 @@ static void comes_late(uint32_t machines, uint32_t before) {
     IS(all[0].desyncs + all[machines].desyncs, 0);
 }
 
+/* A player whom nobody had comes, and one of the machines was never told of it. Who may come is said by the ticket alone: that machine goes
+ * on as the others do, and hears who came by those that carry. So two that play carry once they are three. */
+static void comes_unknown_to(uint32_t machines, uint32_t unaware) {
+    terms of = terms_for(machines);
+    of.players = machines + 1;
+    of.unaware = unaware;
+    begin(of);
+    run(100 + 450 * unaware);
+    begin_to_come(machines);
+    IS(turns_to_come(machines, 1000) < 400, true);
+    run(60);
+    all_play(machines + 1);
+    words_count(machines, unaware);
+    IS(all[unaware].epochs > 0, true);
+    IS(all[unaware].desyncs + all[machines].desyncs, 0);
+}
+
 /* Two at once. */
 static void two_come_back(uint32_t machines, uint32_t after) {
     begin(terms_for(machines));
@@ -824,7 +849,7 @@ static void host_lies(uint32_t machines, uint32_t after) {
         begin_to_come(at);
         all[at].comer.avoided = avoided;
         (void)turns_to_come(at, 2000);
-        run(60);
+        run(200); /* another state is told once the first frame that differs is found */
         if (all[at].desyncs == 0)
             break;
         avoided = all[at].comer.host;
@@ -943,6 +968,9 @@ static void try_all(bool is_few) {
     for (uint32_t after = 1; after <= 81; after += is_few ? 48 : 12)
         for (uint32_t loss = 0; loss <= 20; loss += 10)
             tries("watches who comes back", watches_who_comes_back, after, loss);
+    for (uint32_t machines = 2; machines <= 3; machines++)
+        for (uint32_t unaware = 0; unaware < machines; unaware++)
+            tries("one doesn't know who comes", comes_unknown_to, machines, unaware);
     if (is_few)
         return;
     for (uint32_t machines = 3; machines <= 4; machines++) {

@@ -1,10 +1,11 @@
-/* Matches that go on in epochs: what the calls answer and refuse; seams by marks that change nothing, a delay or the threshold, by two
- * marks at once and many one after another, beside a machine that stops or leaves, over broken lines, under loss and with words held
- * back; who comes, with which ticket, or never; who watches over a seam; and worlds that were drawn. Which rows each machine has
- * settled in which epoch, by which mark an epoch ended, how the next one opened and who has stayed in it, is compared with that of the
- * others, with the words that the players gave, and with what the marks say; each state with that of the game that is run once over the
- * rows. The last line is `N passed, M failed`. `epochs COUNT [SEED]` draws so many worlds, in place of 60; `epochs few` plays few of each kind, `epochs each`
- * one; `epochs long` plays on past the last frame that a session has. */
+/* Matches that go on in epochs: what the calls answer and refuse; seams by marks that change nothing, a delay or the threshold, by
+ * two marks at once and many one after another, beside a machine that stops or leaves, over broken lines, under loss and with words
+ * held back; jobs that are out at one; who comes, with which ticket, or never; who watches over a seam; and worlds that were drawn.
+ * Which rows each machine has settled in which epoch, by which mark an epoch ended, how the next one opened and who has stayed in
+ * it, is compared with that of the others, with the words that the players gave, and with what the marks say; each state with that
+ * of the game that is run once over the rows. The last line is `N passed, M failed`. `epochs COUNT [SEED]` draws so many worlds, in
+ * place of 60; `epochs few` plays few of each kind, `epochs each` one; `epochs long` plays on past the last frame that a session
+ * has. */
 #include "sha256.h"
 
 #include <fazgrond.h>
@@ -60,6 +61,8 @@ typedef struct machine {
     fazgrond_session session;
     fazgrond_peer peer;
     bool is_here, is_out, was_running, is_closing; /* is_out: the others have put it out, and it takes its turns all the same */
+    bool stays_behind;      /* it doesn't go on in the second epoch */
+    uint32_t mute_from;     /* it gives no words from its epoch of this place on; 0: it does */
     state now, saved[SLOTS], serial;
     bool is_used[SLOTS];
     fazgrond_epoch epochs[EPOCHS];
@@ -71,13 +74,16 @@ typedef struct machine {
     uint64_t known[FAZGROND_PLAYERS];
     uint32_t refused_at[KEPT], stood_at[KEPT]; /* of each turn: whether a word was refused in it, or no frame was run */
     uint32_t wait, left[MOST], dropped; /* how often it was told that another one is gone, and that it is itself */
+    uint32_t jobs[2], jobs_out;
+    uint32_t left_at[MOST], stalled[MOST], stalled_at[MOST], gone_in[MOST]; /* when; and that it is stalled, and gone in how long */
     datagram line[UNDER_WAY];
     size_t on_the_way;
 } machine;
 
 /* How a match is played. Datagrams come `latency` turns later, or up to `jitter` more; of 100 `loss` are lost. */
 typedef struct terms {
-    uint32_t machines, players, words, threshold, limit, held_turns, silent_after;
+    uint32_t machines, players, words, threshold, limit, held_turns, silent_after, stalled_after;
+    uint32_t waits; /* one more than the machine that puts nobody out for giving no words; 0: there is none */
     uint32_t owners[FAZGROND_PLAYERS], delays[FAZGROND_PLAYERS];
     uint64_t comers;
     uint32_t frames, latency, jitter, loss;
@@ -113,6 +119,12 @@ static uint64_t seed;
 static uint32_t below(uint32_t count) {
     seed = seed * 6364136223846793005u + 1442695040888963407u;
     return (uint32_t)(seed >> 33) % count;
+}
+
+/* Half of the time 0. */
+static uint32_t drawn_or_none(uint32_t count) {
+    uint32_t drawn = below(count);
+    return below(2) == 0 ? 0 : drawn;
 }
 
 /* So many machines with a player each, and a line of two turns that loses nothing. */
@@ -291,6 +303,7 @@ static fazgrond_match match_of(uint32_t me) {
     match.comers = with.comers;
     match.held_turns = with.held_turns;
     match.silent_after = with.silent_after;
+    match.stalled_after = with.waits == me + 1 ? 0 : with.stalled_after;
     match.words = with.words;
     fazgrond_one_number(&match, 7);
     memcpy(match.owners, with.owners, sizeof match.owners);
@@ -431,11 +444,14 @@ static int32_t put(uint32_t me, uint32_t player, fazgrond_mark mark) {
     return code;
 }
 
+/* Why a mark of a player of a machine that owns it is void in its epoch, by the first fault that it has; FAZGROND_OK if it isn't. */
+static int32_t fault_of(uint32_t me, const fazgrond_mark *mark);
+
 static void put_planned(uint32_t me) {
     for (uint32_t at = 0; at < plans_made; at++)
         if (plans[at].turn == turn && plans[at].machine == me) {
-            int32_t code = put(me, plans[at].player, plans[at].mark);
-            IS(code == FAZGROND_MARKED ? FAZGROND_OK : code, FAZGROND_OK);
+            int32_t fault = fault_of(me, &plans[at].mark), code = put(me, plans[at].player, plans[at].mark);
+            IS(code == FAZGROND_MARKED && fault == FAZGROND_OK ? FAZGROND_OK : code, fault);
         }
 }
 
@@ -516,6 +532,39 @@ static void begin_epoch(uint32_t me, uint64_t before, uint32_t frames) {
     see_settled(self);
 }
 
+/* A guess, whose job is run at once, and is out from now on. */
+static void guess(machine *self, uint32_t player, uint32_t word) {
+    fazgrond_request request;
+    state shown = self->now;
+    OK(fazgrond_guess(&self->session, (uint8_t)(player + 1), &word, 1, frame_of(self) + 1, &self->jobs[self->jobs_out++]));
+    while (fazgrond_take_requests(&self->session, &request, 1) > 0)
+        switch (request.kind) {
+        case FAZGROND_JOB_LOAD: load(self, request.slot); break;
+        case FAZGROND_JOB_SAVE: save(self, request.slot); break;
+        case FAZGROND_JOB_STEP: self->now = stepped(self->now, &request.row); break;
+        default: IS(request.kind, 0);
+        }
+    self->now = shown;
+}
+
+/* As long as a job is out the epoch stays, and nothing is changed. The first one is forgotten, and the others are grafted, too late. */
+static void end_jobs(machine *self, uint64_t before) {
+    fazgrond_epoch epoch;
+    uint32_t frames = 77, added;
+    IS(self->jobs_out > 0, true);
+    for (; self->jobs_out > 0; self->jobs_out--) {
+        uint32_t job = self->jobs[self->jobs_out - 1];
+        IS(fazgrond_peer_go_on(&self->peer, &self->session, &frames), FAZGROND_JOBS_OUT);
+        IS(frames, 77);
+        IS(shown_of(self), before);
+        OK(fazgrond_peer_epoch(&self->peer, &epoch));
+        IS(epoch.id == epoch_of(self)->id && epoch.base == epoch_of(self)->base, true);
+        int32_t code = self->jobs_out == 1 ? FAZGROND_DEAD : fazgrond_graft(&self->session, job, &added);
+        IS(code == FAZGROND_LATE ? FAZGROND_DEAD : code, FAZGROND_DEAD);
+        IS(fazgrond_forget(&self->session, job), self->jobs_out == 1 ? FAZGROND_OK : FAZGROND_NO_JOB);
+    }
+}
+
 /* What has come is played. */
 static void synchronize(machine *self) {
     uint32_t has_news;
@@ -534,6 +583,10 @@ static void go_on(uint32_t me) {
     uint64_t before = shown_of(self);
     uint32_t frames = 77;
     int32_t code = fazgrond_peer_go_on(&self->peer, &self->session, &frames);
+    if (code == FAZGROND_JOBS_OUT) {
+        end_jobs(self, before);
+        code = fazgrond_peer_go_on(&self->peer, &self->session, &frames);
+    }
     if (code == FAZGROND_OK) {
         begin_epoch(me, before, frames);
     } else {
@@ -593,7 +646,7 @@ static void play(uint32_t me) {
     int32_t given = FAZGROND_LOCAL_INPUT_MISSING;
     if (self->wait > 0)
         self->wait--;
-    else if (shown_of(self) < with.frames)
+    else if (shown_of(self) < with.frames && (self->mute_from == 0 || self->epoch_count < self->mute_from))
         given = give_all(me);
     self->refused_at[turn % KEPT] = given == FAZGROND_PREDICTION_THRESHOLD;
     self->stood_at[turn % KEPT] = given != FAZGROND_OK;
@@ -614,6 +667,12 @@ static void hear_event(machine *self, const fazgrond_event *event) {
     if (event->code == FAZGROND_LEFT) {
         IS(event->machine < MOST && !is_there, true);
         self->left[event->machine]++;
+        self->left_at[event->machine] = turn;
+    }
+    if (event->code == FAZGROND_STALLED) {
+        self->stalled[event->machine]++;
+        self->stalled_at[event->machine] = turn;
+        self->gone_in[event->machine] = event->disconnect_in;
     }
     IS(event->code == FAZGROND_MISSING && is_there, false);
     IS(event->code == FAZGROND_DESYNC || event->code == FAZGROND_REFUSED || event->code == FAZGROND_MISMATCH, false);
@@ -669,7 +728,8 @@ static void take_turn(uint32_t me) {
     IS(is_running == 0 && self->was_running, false);
     self->was_running = is_running != 0;
     if (is_running != 0) {
-        go_on(me);
+        if (!self->stays_behind)
+            go_on(me);
         hand_over(self);
         put_planned(me);
         play(me);
@@ -749,16 +809,34 @@ static uint64_t upper_half(uint64_t comers, uint32_t name) {
     return sha256_end(&made) >> 32;
 }
 
-/* Whether a mark is void in an epoch: a threshold that its sessions can't have, a delay that is too long or isn't the giver's, or
- * somebody who comes by another ticket than one of the match's. */
-static bool is_void(const made *one, const fazgrond_epoch *epoch) {
+/* Whether words of one input have other delays than each other after a mark that gives one of them a delay. */
+static bool is_unlike(const fazgrond_mark *mark, const fazgrond_epoch *epoch) {
     for (uint32_t player = 0; player < FAZGROND_PLAYERS; player++)
-        if (one->mark.delays[player] != FAZGROND_AS_BEFORE
-            && (one->mark.delays[player] > MOST_DELAY || epoch->owners[player] != one->machine))
-            return true;
-    uint64_t ticket = one->mark.ticket;
-    bool is_good = with.comers == 0 || ticket >> 32 == upper_half(with.comers, (uint32_t)ticket);
-    return one->mark.threshold > (with.players <= 4 ? 8u : 15u) || (brings_somebody(&one->mark) && !is_good);
+        for (uint32_t other = 0; other < FAZGROND_PLAYERS; other++) {
+            uint32_t one = mark->delays[player], two = mark->delays[other];
+            bool is_given = one != FAZGROND_AS_BEFORE && player / epoch->words == other / epoch->words;
+            if (is_given && one != (two != FAZGROND_AS_BEFORE ? two : epoch->delays[other]))
+                return true;
+        }
+    return false;
+}
+
+static int32_t fault_of(uint32_t me, const fazgrond_mark *mark) {
+    const fazgrond_epoch *epoch = epoch_of(&all[me]);
+    bool is_long = false, is_others = false, is_good = with.comers == 0;
+    for (uint32_t player = 0; player < FAZGROND_PLAYERS; player++)
+        if (mark->delays[player] != FAZGROND_AS_BEFORE) {
+            is_long |= mark->delays[player] > MOST_DELAY;
+            is_others |= epoch->owners[player] != me;
+        }
+    is_good |= mark->ticket >> 32 == upper_half(with.comers, (uint32_t)mark->ticket);
+    if (mark->threshold > (with.players <= 4 ? 8u : 15u))
+        return FAZGROND_GREAT_THRESHOLD;
+    if (is_long || is_others)
+        return is_long ? FAZGROND_LONG_DELAY : FAZGROND_OTHERS_DELAY;
+    if (is_unlike(mark, epoch))
+        return FAZGROND_UNLIKE_DELAYS;
+    return brings_somebody(mark) && !is_good ? FAZGROND_WRONG_TICKET : FAZGROND_OK;
 }
 
 /* By which mark an epoch ended, by its last row: of those on words of it the lowest player's. */
@@ -766,7 +844,7 @@ static const made *mark_of_end(const fazgrond_epoch *epoch, uint64_t end, const 
     const made *found = NULL;
     for (uint32_t at = 0; at < marks_made; at++) {
         const made *one = &marks[at];
-        bool is_there = one->id == epoch->id && one->frame + 1 == end && !is_gone(last, one->player) && !is_void(one, epoch);
+        bool is_there = one->id == epoch->id && one->frame + 1 == end && !is_gone(last, one->player);
         if (is_there && (found == NULL || one->player < found->player))
             found = one;
     }
@@ -776,7 +854,7 @@ static const made *mark_of_end(const fazgrond_epoch *epoch, uint64_t end, const 
 /* No mark of a machine that stays, on a word of an epoch, comes before its end. */
 static void is_no_mark_before(const fazgrond_epoch *epoch, uint64_t end) {
     for (uint32_t at = 0; at < marks_made; at++)
-        if (marks[at].id == epoch->id && all[marks[at].machine].is_here && !is_void(&marks[at], epoch))
+        if (marks[at].id == epoch->id && all[marks[at].machine].is_here)
             IS(marks[at].frame + 1 >= end, true);
 }
 
@@ -901,6 +979,22 @@ static void begins_anew(uint32_t machines, uint32_t marker) {
     IS(epoch_of(&all[0])->base > 40, true);
 }
 
+/* Jobs of one machine, or of all, are out as the epoch ends: no other epoch begins before they are over. */
+static void waits_for_jobs(uint32_t machines, uint32_t held_turns) {
+    terms of = terms_for(machines);
+    of.held_turns = held_turns;
+    open_all(of);
+    run(80);
+    OK(put(0, 0, mark_of_nothing()));
+    for (uint32_t me = 0; me + 1 < machines; me++)
+        for (uint32_t one = 0; one < 2; one++)
+            guess(&all[me], machines - 1, 99 + one);
+    run_to_the_end(1000);
+    IS(epochs_played(), 2);
+    for (uint32_t me = 0; me < machines; me++)
+        IS(all[me].jobs_out, 0);
+}
+
 /* An own player's words count later or sooner from the next epoch on. */
 static void changes_delay(uint32_t from, uint32_t to) {
     terms of = terms_for(3);
@@ -945,7 +1039,7 @@ static void two_at_once(uint32_t one, uint32_t other) {
     IS(epoch_of(&all[0])->delays[loser], 4);
 }
 
-/* What can't be is no mark: the epoch doesn't end by it, and by another machine's it does. */
+/* What can't be is no mark, and isn't put: the epoch doesn't end by it, and by another one of the same machine it does. */
 static void is_a_void_mark(uint32_t delay, uint32_t threshold) {
     fazgrond_mark mark = mark_of_nothing();
     open_all(terms_for(2));
@@ -953,12 +1047,13 @@ static void is_a_void_mark(uint32_t delay, uint32_t threshold) {
     mark.threshold = threshold;
     if (delay > 0)
         mark.delays[0] = delay;
-    OK(put(0, 0, mark));
+    IS(put(0, 0, mark), threshold > 8 ? FAZGROND_GREAT_THRESHOLD : FAZGROND_LONG_DELAY);
     run(100);
     all_agree();
     IS(epochs_played(), 1);
+    OK(put(0, 0, mark_of_nothing()));
+    IS(put(0, 0, mark), fault_of(0, &mark));
     IS(put(0, 0, mark_of_nothing()), FAZGROND_MARKED);
-    OK(put(1, 1, mark_of_nothing()));
     run_to_the_end(1000);
     IS(epochs_played(), 2);
 }
@@ -968,7 +1063,8 @@ static void is_anothers_delay(uint32_t unused, uint32_t none) {
     (void)unused, (void)none;
     open_all(terms_for(2));
     run(80);
-    OK(put(0, 0, mark_of_delay(1, 2)));
+    IS(put(0, 0, mark_of_delay(1, 2)), FAZGROND_OTHERS_DELAY);
+    IS(put(0, 1, mark_of_delay(0, 2)), FAZGROND_INVALID_PLAYER);
     run_to_the_end(1000);
     IS(epochs_played(), 1);
 }
@@ -1018,6 +1114,11 @@ static void of_two_words(uint32_t delay, uint32_t to) {
     run(80);
     IS(put(0, 1, mark_of_nothing()), FAZGROND_INVALID_PLAYER);
     IS(put(0, 7, mark_of_nothing()), FAZGROND_INVALID_PLAYER);
+    fazgrond_mark uneven = mark_of_nothing();
+    uneven.delays[7] = delay + 1;
+    IS(put(0, 6, uneven), FAZGROND_UNLIKE_DELAYS);
+    uneven.delays[6] = delay;
+    IS(put(0, 6, uneven), FAZGROND_UNLIKE_DELAYS);
     OK(put(0, 6, mark_of_delay(6, to)));
     run_to_the_end(1000);
     IS(epochs_played(), 2);
@@ -1025,7 +1126,7 @@ static void of_two_words(uint32_t delay, uint32_t to) {
     IS(epoch_of(&all[1])->delays[1], 0);
 }
 
-/* ---- A machine that stops near a mark. */
+/* ---- A machine that stops near a mark, or holds it up. */
 
 enum { AROUND = 8 };
 
@@ -1034,16 +1135,21 @@ static void puts_if_there(uint32_t me, fazgrond_mark mark) {
         OK(put(me, me, mark));
 }
 
-/* One of three stops so many turns before or after a mark, its own or another's. The others play on, and by the next mark it owns
- * nothing. */
-static void stops_near(uint32_t who, uint32_t at) {
-    uint32_t stopped = who / 3, marker = who % 3, other = stopped == 0 ? 1 : 0;
-    open_all(terms_for(3));
+/* Which of three machines stops near a mark, its own or another's, and when; and which other one doesn't hear it for so many turns before. */
+typedef struct stopping {
+    uint32_t stopped, marker, at, deaf, unheard;
+} stopping;
+
+/* The others play on, and by the next mark it owns nothing. */
+static void stops_so(terms of, const stopping *how) {
+    uint32_t stopped = how->stopped, other = stopped == 0 ? 1 : 0;
+    open_all(of);
     run(80);
     for (uint32_t time = 0; time <= 2 * AROUND; time++) {
         if (time == AROUND)
-            puts_if_there(marker, mark_of_nothing());
-        if (time == at)
+            puts_if_there(how->marker, mark_of_nothing());
+        is_cut[stopped][how->deaf] = time < how->at && time + how->unheard >= how->at;
+        if (time == how->at)
             stop(stopped);
         run(1);
     }
@@ -1057,10 +1163,36 @@ static void stops_near(uint32_t who, uint32_t at) {
     IS(is_gone(&all[other].records[(with.frames - 1) % KEPT].row, stopped), true);
 }
 
+static void stops_near(uint32_t who, uint32_t at) {
+    stopping how = { .stopped = who / 3, .marker = who % 3, .at = at };
+    stops_so(terms_for(3), &how);
+}
+
+enum { SOON = 600 };
+
+/* The same where who gives no words is gone sooner than who is silent. One of the others can be in the next epoch by then, while the third
+ * one lacks words of who has stopped: in the epoch before neither gives words any more, and neither is gone for that. */
+static void stops_near_a_stall(uint32_t drawn, uint32_t at) {
+    terms of = terms_for(3);
+    stopping how = { .at = at };
+    seed = drawn;
+    below(2);
+    how.stopped = below(3);
+    how.marker = below(3);
+    how.deaf = (how.stopped + 1 + below(2)) % 3;
+    how.unheard = drawn_or_none(6);
+    of.stalled_after = SOON;
+    of.latency = 1 + below(4);
+    of.jitter = below(3);
+    of.loss = below(2) * 10;
+    for (uint32_t player = 0; player < 3; player++)
+        of.delays[player] = drawn_or_none(5);
+    stops_so(of, &how);
+}
+
 /* An epoch begins in which a player is nobody's, and one of three machines, which puts a mark at once, is alone for so many turns. Another
  * stops then, so that the third one has words of it past that mark. Nobody waits for more of them than there are. */
-static void stops_as_it_begins(uint32_t alone, uint32_t delay) {
-    terms of = terms_for(3);
+static void stops_as_it_begins_in(terms of, uint32_t alone, uint32_t delay) {
     of.players = 4;
     of.owners[3] = FAZGROND_NOBODY;
     for (uint32_t player = 0; player < 3; player++)
@@ -1079,6 +1211,98 @@ static void stops_as_it_begins(uint32_t alone, uint32_t delay) {
     cut(0, 2, false);
     run_to_the_end(1000);
     IS(epochs_played(), 3);
+}
+
+static void stops_as_it_begins(uint32_t alone, uint32_t delay) { stops_as_it_begins_in(terms_for(3), alone, delay); }
+
+static void stops_as_it_begins_to_stall(uint32_t alone, uint32_t delay) {
+    terms of = terms_for(3);
+    of.stalled_after = SOON;
+    stops_as_it_begins_in(of, alone, delay);
+}
+
+/* Milliseconds from a machine's first seam to a turn. */
+static uint32_t since_the_seam(uint32_t me, uint32_t at) { return (at - all[me].seam_turns[1]) * TURN; }
+
+static void is_about(uint32_t got, uint32_t wanted) { IS(got + 2 * TURN >= wanted && got <= wanted + 2 * TURN, true); }
+
+/* A machine was told once that another one is stalled, and that it would be gone so long after the seam, or not at all if that is 0. */
+static void is_told_stalled(uint32_t me, uint32_t who, uint32_t gone_after) {
+    const machine *self = &all[me];
+    IS(self->stalled[who], 1);
+    if (gone_after > 0)
+        is_about(since_the_seam(me, self->stalled_at[who]) + self->gone_in[who], gone_after);
+    else
+        IS(self->gone_in[who], 0);
+}
+
+/* And it was gone as that had said. */
+static void is_gone_as_told(uint32_t me, uint32_t who) {
+    const machine *self = &all[me];
+    IS(self->left[who], 1);
+    is_about((self->left_at[who] - self->stalled_at[who]) * TURN, self->gone_in[who]);
+}
+
+/* One of three answers, and doesn't go on in the next epoch, or goes on and gives no words there. With a delay it is at frame 0 then: all is
+ * known before it would play past the end. It holds the others up, which is told, and is put out: one that gives no words as in the midst
+ * of an epoch, and one that stays in the old epoch once who might have kept it there would be gone. */
+static void holds_up_a_seam(uint32_t how, uint32_t delay) {
+    terms of = terms_for(3);
+    uint32_t who = how / 2, other = who == 0 ? 1 : 0;
+    bool is_behind = how % 2 == 0;
+    of.stalled_after = 2000;
+    of.waits = who + 1;
+    for (uint32_t player = 0; player < 3; player++)
+        of.delays[player] = delay;
+    open_all(of);
+    run(80);
+    OK(put(other, other, mark_of_nothing()));
+    all[who].stays_behind = is_behind;
+    all[who].mute_from = is_behind ? 0 : 2;
+    all[who].is_out = true; /* in a while */
+    run_to_the_seam(other);
+    run((of.stalled_after + is_behind * 2 * of.silent_after) / TURN - 10);
+    for (uint32_t me = 0; me < 3; me++)
+        IS(all[me].left[who], 0);
+    run(60);
+    stop(who);
+    for (uint32_t me = 0; me < 3; me++) {
+        if (me == who)
+            continue;
+        is_gone_as_told(me, who);
+        if (is_behind)
+            is_told_stalled(me, who, 2 * of.silent_after + of.stalled_after);
+    }
+    run_to_the_end(1000);
+    IS(epochs_played(), 2);
+}
+
+/* One of three stays in the old epoch until just before it would be gone for that, or for long where nobody is. That is told of it, and of
+ * nobody else. Then it goes on, and they play. */
+static void goes_on_late(uint32_t who, uint32_t stalled_after) {
+    terms of = terms_for(3);
+    uint32_t other = who == 0 ? 1 : 0, gone_after = stalled_after > 0 ? 2 * of.silent_after + stalled_after : 0;
+    of.stalled_after = stalled_after;
+    of.delays[1] = 2;
+    of.delays[2] = 4;
+    open_all(of);
+    run(80);
+    OK(put(other, other, mark_of_nothing()));
+    all[who].stays_behind = true;
+    run_to_the_seam(other);
+    run(FAZGROND_NOTIFY_AFTER / TURN - 10);
+    for (uint32_t me = 0; me < 3; me++)
+        IS(all[me].stalled[who], 0);
+    run(gone_after > 0 ? gone_after / TURN - FAZGROND_NOTIFY_AFTER / TURN - 10 : 600);
+    all[who].stays_behind = false;
+    run_to_the_end(1000);
+    IS(epochs_played(), 2);
+    for (uint32_t me = 0; me < 3; me++)
+        for (uint32_t of_whom = 0; of_whom < 3; of_whom++)
+            if (of_whom == who && me != who)
+                is_told_stalled(me, who, gone_after);
+            else
+                IS(all[me].stalled[of_whom], 0);
 }
 
 /* How many words of a player a machine has. */
@@ -1239,12 +1463,12 @@ static uint64_t wrong_ticket(uint32_t how) {
     return all_wrong[how];
 }
 
-/* A mark with a wrong ticket is void at all machines: nobody stands still or leaves for it, and the epoch ends by another one's mark. */
+/* A mark with a wrong ticket isn't put: nobody stands still or leaves for it, and the epoch ends by another one's mark. */
 static void has_wrong_ticket(uint32_t machines, uint32_t how) {
     uint32_t marker = how % machines, other = (how + 1) % machines;
     open_all(one_is_free(machines));
     run(80);
-    OK(put(marker, marker, mark_of_who_comes(machines, wrong_ticket(how))));
+    IS(put(marker, marker, mark_of_who_comes(machines, wrong_ticket(how))), FAZGROND_WRONG_TICKET);
     uint64_t settled = settled_by_all();
     run(60);
     IS(settled_by_all() >= settled + 55, true);
@@ -1265,12 +1489,10 @@ static void run_until_left(uint32_t gone, uint32_t turns) {
         }
 }
 
-/* Who is let in and never comes has left once the time of silence has passed since the seam, or ten seconds if there is none. Some of the
- * machines may put it out before: the match goes on all the same. */
-static void never_comes(uint32_t silent_after, uint32_t put_out_by) {
-    terms of = one_is_free(3);
-    uint32_t patience = (silent_after > 0 ? silent_after : 10000) / TURN;
-    of.silent_after = silent_after;
+/* Who is let in and never comes has left once the time of silence has passed twice since the seam, or ten seconds if there is none: who
+ * brings it may itself be kept so long in the epoch before. Some of the machines may put it out sooner: the match goes on all the same. */
+static void never_comes_in(terms of, uint32_t put_out_by) {
+    uint32_t patience = (of.silent_after > 0 ? 2 * of.silent_after : 10000) / TURN;
     open_all(of);
     run(80);
     for (uint32_t me = 0; me < 3; me++)
@@ -1291,6 +1513,20 @@ static void never_comes(uint32_t silent_after, uint32_t put_out_by) {
         IS(all[me].left[3], 1);
 }
 
+static void never_comes(uint32_t silent_after, uint32_t put_out_by) {
+    terms of = one_is_free(3);
+    of.silent_after = silent_after;
+    never_comes_in(of, put_out_by);
+}
+
+/* It makes nothing sooner that who is stalled is gone sooner. */
+static void never_comes_to_stall(uint32_t silent_after, uint32_t put_out_by) {
+    terms of = one_is_free(3);
+    of.silent_after = silent_after;
+    of.stalled_after = SOON;
+    never_comes_in(of, put_out_by);
+}
+
 /* Whom of the first three a machine knows to have been in the epoch before. */
 static void have_stayed(uint32_t me, uint32_t zero, uint32_t one, uint32_t two) {
     IS(has_stayed(&all[me], 0), zero);
@@ -1300,9 +1536,7 @@ static void have_stayed(uint32_t me, uint32_t zero, uint32_t one, uint32_t two) 
 
 /* Who comes gets the lowest machine's number that is free and the player, opens the epoch with the state at its beginning, and
  * plays. */
-static void comes(uint32_t marker, uint32_t late) {
-    terms of = one_is_free(2);
-    of.silent_after = 3000;
+static void comes_in(terms of, uint32_t marker, uint32_t late) {
     of.comers *= late == 0; /* or whoever has any ticket */
     open_all(of);
     run(80);
@@ -1326,6 +1560,49 @@ static void comes(uint32_t marker, uint32_t late) {
     IS(epoch_of(&all[0])->delays[2], 1);
     for (uint32_t me = 0; me < 3; me++)
         have_stayed(me, 1, 1, 1);
+}
+
+static void comes(uint32_t marker, uint32_t late) {
+    terms of = one_is_free(2);
+    of.silent_after = 3000;
+    comes_in(of, marker, late);
+}
+
+static void comes_where_some_stall(uint32_t marker, uint32_t late) {
+    terms of = one_is_free(2);
+    of.silent_after = 3000;
+    of.stalled_after = SOON;
+    comes_in(of, marker, late);
+}
+
+/* Who comes is heard, and gives no words: that is told of it. It is put out once who might have kept it from beginning would be gone, and the
+ * others play on. */
+static void comes_mute(uint32_t marker, uint32_t late) {
+    terms of = one_is_free(2);
+    of.stalled_after = 2000;
+    of.waits = 3;
+    open_all(of);
+    run(80);
+    OK(put(marker, marker, mark_of_who_comes(2, ticket_of(6))));
+    run(20 + late);
+    fazgrond_epoch epoch = *epoch_of(&all[0]);
+    with.machines = 3;
+    open_machine(2, &epoch, all[0].records[(epoch.base - 1) % KEPT].after);
+    all[2].mute_from = 1;
+    all[2].is_out = true; /* in a while */
+    for (uint32_t me = 0; me < 2; me++)
+        all[me].left[2] = 0; /* the one whom nobody plays at first */
+    run(of.stalled_after / TURN);
+    for (uint32_t me = 0; me < 2; me++)
+        IS(all[me].left[2], 0);
+    run(2 * of.silent_after / TURN + 20);
+    stop(2);
+    for (uint32_t me = 0; me < 2; me++) {
+        is_told_stalled(me, 2, 2 * of.silent_after + of.stalled_after);
+        is_gone_as_told(me, 2);
+    }
+    run_to_the_end(1000);
+    IS(epochs_played(), 2);
 }
 
 /* One of three stops, and whoever comes gets its player and its number: it hasn't stayed. */
@@ -1358,7 +1635,7 @@ static void say_bye(uint32_t me) {
     uint8_t bytes[FAZGROND_DATAGRAM];
     size_t length;
     for (uint8_t to = 0; to < MOST; to++)
-        if (fazgrond_peer_bye(&all[me].peer, to, bytes, sizeof bytes, &length) == FAZGROND_OK)
+        if (fazgrond_peer_bye(&all[me].peer, to, FAZGROND_BYE_LEAVES, bytes, sizeof bytes, &length) == FAZGROND_OK)
             post(me, to, bytes, length);
 }
 
@@ -1408,12 +1685,12 @@ static void open_with(uint32_t me, uint64_t comers, bool lasts) {
              : fazgrond_peer_open_carrying(&self->peer, &self->session, &match));
 }
 
-static bool is_told_of_another_match(machine *self) {
+static bool is_told_of_another_match(machine *self, uint32_t field) {
     fazgrond_event event;
     bool is_told = false;
     while (fazgrond_peer_event(&self->peer, &event) == FAZGROND_OK) {
         IS(event.code == FAZGROND_MISMATCH || event.code == FAZGROND_SYNCHRONIZING, true);
-        IS(event.code != FAZGROND_MISMATCH || event.field == 3, true);
+        IS(event.code != FAZGROND_MISMATCH || event.field == field, true);
         is_told |= event.code == FAZGROND_MISMATCH;
     }
     return is_told;
@@ -1436,7 +1713,7 @@ static void means_another(uint32_t how, uint32_t one) {
             OK(fazgrond_peer_poll(&all[me].peer, &all[me].session, now_of(me)));
             OK(fazgrond_peer_is_running(&all[me].peer, &is_running));
             IS(is_running, 0);
-            is_told[me] |= is_told_of_another_match(&all[me]);
+            is_told[me] |= is_told_of_another_match(&all[me], hows[how].lasts[0] == hows[how].lasts[1] ? 3 : 5);
             send_all(me);
         }
     IS(is_told[0] && is_told[1], true);
@@ -1635,6 +1912,25 @@ static void refuses_openings(uint32_t unused, uint32_t none) {
     other.delays[1] = 3; /* another machine's */
     OK(opened(&match, &other));
     other = epoch;
+    other.words = 2;
+    IS(opened(&match, &other), FAZGROND_UNLIKE_DELAYS);
+    other.delays[1] = 2;
+    IS(opened(&match, &other), FAZGROND_TWO_OWNERS);
+    fazgrond_close(&all[0].session);
+    with.delays[0] = 0;
+    other = first_epoch();
+    open_session(0, &other, (state){ 1, 0 });
+    other.words = 3;
+    for (uint32_t at = 0; at < FAZGROND_PLAYERS; at++)
+        other.owners[at] = at / 3 % 2;
+    IS(opened(&match, &other), FAZGROND_TOO_MANY_WORDS);
+    fazgrond_close(&all[0].session);
+    open_session(0, &epoch, (state){ 1, 0 });
+    other = epoch;
+    other.words = 5;
+    other.delays[1] = 2;
+    IS(opened(&match, &other), FAZGROND_INVALID_MACHINE);
+    other = epoch;
     other.size++;
     IS(opened(&match, &other), FAZGROND_OTHER_VERSION);
     other = epoch;
@@ -1653,6 +1949,9 @@ static void refuses_openings(uint32_t unused, uint32_t none) {
     match = match_of(0);
     match.draw = 0;
     IS(opened(&match, &epoch), FAZGROND_INVALID_REQUEST);
+    match = match_of(0);
+    match.numbers[1] = 0;
+    IS(opened(&match, &epoch), FAZGROND_NO_NUMBER);
 }
 
 /* A match that doesn't go on in epochs takes no marks and has no epoch. */
@@ -1746,12 +2045,6 @@ static void refuses_another_session(uint32_t unused, uint32_t none) {
 }
 
 /* ---- Worlds that are drawn. */
-
-/* Half of the time 0. */
-static uint32_t drawn_or_none(uint32_t count) {
-    uint32_t drawn = below(count);
-    return below(2) == 0 ? 0 : drawn;
-}
 
 /* Two to six inputs of one or two words each, which two to five machines own in turn; delays, thresholds and lines. */
 static terms drawn_terms(void) {
@@ -1895,6 +2188,8 @@ static void try_seams(uint32_t every) {
         tries("frames begin anew", begins_anew, machines, 0);
         tries("frames begin anew", begins_anew, machines, machines - 1);
         tries("three epochs", many, 3, machines);
+        tries("jobs are out", waits_for_jobs, machines, 0);
+        tries("jobs are out", waits_for_jobs, machines, 2);
     }
     try_changes(every < 4 ? 2 : 6);
     tries("two marks at once", two_at_once, 0, 1);
@@ -1912,9 +2207,20 @@ static void try_stops(uint32_t every) {
     for (uint32_t who = 0; who < 9; who++)
         for (uint32_t at = who % every; at <= 2 * AROUND; at += every)
             tries("a machine stops near a mark", stops_near, who, at);
+    for (uint32_t drawn = 1; drawn <= 10; drawn += every)
+        for (uint32_t at = 0; at <= 2 * AROUND; at++)
+            tries("a machine stops near a mark and is stalled", stops_near_a_stall, drawn, at);
     for (uint32_t alone = 0; alone <= 2 * AROUND; alone += every)
-        for (uint32_t delay = 0; delay <= 4; delay += every < 4 ? 2 : 4)
+        for (uint32_t delay = 0; delay <= 4; delay += every < 4 ? 2 : 4) {
             tries("a machine stops as an epoch begins", stops_as_it_begins, alone, delay);
+            tries("a machine stops as an epoch begins and is stalled", stops_as_it_begins_to_stall, alone, delay);
+        }
+    for (uint32_t how = 0; how < 6; how++)
+        for (uint32_t delay = 0; delay <= 4; delay += 4)
+            tries("a machine holds up a seam", holds_up_a_seam, how, delay);
+    for (uint32_t who = 0; who < 3; who++)
+        for (uint32_t stalled_after = 0; stalled_after <= 2000; stalled_after += 1000)
+            tries("a machine goes on late", goes_on_late, who, stalled_after);
     for (uint32_t delay = 4; delay <= MOST_DELAY; delay += every < 4 ? 1 : 4) /* a shorter one has words past the end come after the mark */
         for (uint32_t late = delay; late <= 8; late += every < 4 ? 1 : 2)
             tries("who lacks words keeps the end", keeps_the_end, delay, late);
@@ -1935,10 +2241,18 @@ static void try_comers(void) {
     tries("tickets", are_tickets, 0, 0);
     for (uint32_t how = 0; how < WRONG_TICKETS; how++)
         tries("a wrong ticket", has_wrong_ticket, 2 + how % 2, how);
-    for (uint32_t silent_after = 0; silent_after <= 3000; silent_after += 1500)
+    for (uint32_t silent_after = 0; silent_after <= 3000; silent_after += 1500) {
         tries("somebody never comes", never_comes, silent_after, silent_after / 1500);
+        tries("somebody never comes where some stall", never_comes_to_stall, silent_after, silent_after / 1500);
+    }
     tries("somebody comes", comes, 0, 0);
     tries("somebody comes", comes, 1, 40);
+    for (uint32_t late = 0; late <= 280; late += 70) { /* in the end after the time of silence, and before twice that */
+        tries("somebody comes", comes, late / 70 % 2, late);
+        tries("somebody comes where some stall", comes_where_some_stall, late / 70 % 2, late);
+    }
+    for (uint32_t marker = 0; marker < 2; marker++)
+        tries("who comes gives no words", comes_mute, marker, 20 * marker);
     for (uint32_t stopped = 1; stopped < 3; stopped++) /* what the first machine had is what the others are compared with */
         tries("somebody comes in another's place", comes_in_place, stopped, (stopped + 1) % 3);
 }
@@ -1995,8 +2309,10 @@ int main(int count, char **words) {
         try_one_of_each();
     } else {
         try_all(is_few ? 8 : 1);
-        for (uint32_t at = 0; at < worlds; at++)
+        for (uint32_t at = 0; at < worlds; at++) {
             tries("a world that was drawn", is_drawn, first + at, 0);
+            tries("a machine stops near a mark and is stalled", stops_near_a_stall, first + at, (first + at) % (2 * AROUND));
+        }
     }
     printf("%u passed, %u failed\n", passed, failed);
     return failed != 0;

@@ -45,6 +45,8 @@ struct Machine {
         match.comers = comers;
         fazgrond_one_number(&match, 7);
         fazgrond::Epoch epoch = fazgrond_epoch_for(&match, &settings);
+        for (std::uint32_t at = 0; at < 256; at++)
+            is(fazgrond_epoch_has(&epoch, at) == (at < 2 ? 1u : 0u));
         must(session.open(settings));
         is(!peer.has_stayed(0) && !peer.has_stayed(1));
         must(peer.open_lasting(session, match, epoch));
@@ -123,7 +125,7 @@ void go_on(Machine &self) {
     self.is(self.frame() == before);
 }
 
-// The marks of turns 40 and 120 are the first machine's. That of turn 80 is the second one's, and void: nobody has its ticket.
+// The marks of turns 40 and 120 are the first machine's. That of turn 80 is the second one's, and isn't put: nobody has its ticket.
 void put_mark(Machine &self, std::uint32_t turn) {
     if ((turn != 40 && turn != 80 && turn != 120) || self.me != (turn == 80 ? 1 : 0))
         return;
@@ -133,8 +135,9 @@ void put_mark(Machine &self, std::uint32_t turn) {
         mark.comes[0] = 1;
     } else if (turn == 120)
         mark.threshold = 6;
-    self.must(self.peer.mark(self.session, std::uint8_t(self.me + 1), mark));
-    self.is(self.peer.mark(self.session, std::uint8_t(self.me + 1), mark) == Code::marked);
+    Code again = turn == 80 ? Code::wrong_ticket : Code::marked;
+    self.is(self.peer.mark(self.session, std::uint8_t(self.me + 1), mark) == (turn == 80 ? again : Code::ok));
+    self.is(self.peer.mark(self.session, std::uint8_t(self.me + 1), mark) == again);
     self.is(self.peer.mark(self.session, std::uint8_t(2 - self.me), mark) == Code::invalid_player);
 }
 

@@ -338,7 +338,7 @@ static void leave(machine *one, machine *two) {
     give(one, 1, 4);
     pass_both(one, two);
     IS(waiting(two), 2);
-    OK(fazgrond_peer_bye(&one->peer, 1, bytes, sizeof bytes, &length));
+    OK(fazgrond_peer_bye(&one->peer, 1, FAZGROND_BYE_LEAVES, bytes, sizeof bytes, &length));
     OK(fazgrond_peer_receive(&two->peer, &two->session, bytes, length, 0));
     IS(waiting(two), 2);
     OK(fazgrond_peer_poll(&two->peer, &two->session, 0));
@@ -381,7 +381,7 @@ static void stay(machine *all) {
     for (int turn = 0; turn < 8; turn++)
         exchange(all, 0);
     for (uint32_t other = 1; other < 3; other++) {
-        OK(fazgrond_peer_bye(&all[0].peer, (uint8_t)other, bytes, sizeof bytes, &length));
+        OK(fazgrond_peer_bye(&all[0].peer, (uint8_t)other, FAZGROND_BYE_LEAVES, bytes, sizeof bytes, &length));
         OK(fazgrond_peer_receive(&all[other].peer, &all[other].session, bytes, length, 0));
     }
     for (int turn = 0; turn < 8; turn++)

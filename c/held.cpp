@@ -16,6 +16,7 @@ struct Machine {
         match.owners[0] = 0;
         match.owners[1] = 1;
         match.draw = 70 + me;
+        fazgrond_one_number(&match, 71);
         match.held_turns = held_turns;
         is_open = session.open(fazgrond::settings_of(2, 1u << me)) == Code::ok && peer.open(session, match) == Code::ok;
     }

@@ -99,6 +99,7 @@ static void open_machine(uint32_t me) {
     match.draw = draw_of(me);
     match.comers = COMERS;
     match.silent_after = 3000;
+    match.stalled_after = 1000;
     for (uint32_t at = 0; at < FAZGROND_PLAYERS; at++) {
         match.owners[at] = epoch.owners[at] = at < MACHINES ? at : FAZGROND_NO_PLAYER;
         epoch.delays[at] = at < MACHINES ? DELAY : 0;

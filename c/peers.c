@@ -70,7 +70,7 @@ static void are_closed(fazgrond_peer *peer, fazgrond_session *session) {
 /* All calls that need a peer alone. */
 static void is_closed(fazgrond_peer *peer) {
     IS(fazgrond_peer_is_running(peer, &a), FAZGROND_IS_CLOSED);
-    IS(fazgrond_peer_bye(peer, 1, bytes, sizeof bytes, &length), FAZGROND_IS_CLOSED);
+    IS(fazgrond_peer_bye(peer, 1, FAZGROND_BYE_LEAVES, bytes, sizeof bytes, &length), FAZGROND_IS_CLOSED);
     IS(fazgrond_peer_disconnect(peer, 1), FAZGROND_IS_CLOSED);
     IS(fazgrond_peer_event(peer, &event), FAZGROND_IS_CLOSED);
     IS(fazgrond_peer_stats(peer, 1, &stats), FAZGROND_IS_CLOSED);
@@ -152,12 +152,53 @@ static void not_opened(void) {
     match = match_of(0);
     match.machines = 9;
     is_not_opened(&session, &match, FAZGROND_INVALID_MACHINE);
+    match = match_of(0);
+    match.numbers[1] = 0;
+    is_not_opened(&session, &match, FAZGROND_NO_NUMBER);
     for (uint32_t size = 0; size < 300; size++) { /* another version's */
         match = match_of(0);
         match.size = size;
         if (size != sizeof match)
             is_not_opened(&session, &match, FAZGROND_OTHER_VERSION);
     }
+    fazgrond_close(&session);
+}
+
+/* A session of so many words, of which these are local, each with its delay. */
+static void open_words(fazgrond_session *session, uint32_t words, uint32_t local, uint32_t first, uint32_t second) {
+    fazgrond_settings settings = fazgrond_settings_for(words);
+    settings.local = local;
+    settings.delays[0] = first;
+    settings.delays[1] = second;
+    IS(fazgrond_open(session, &settings), FAZGROND_OK);
+}
+
+/* Inputs of several words: one owner, no place past the last one, one delay, and a number of words that there may be. */
+static void inputs_not_opened(void) {
+    fazgrond_session session = FAZGROND_CLOSED;
+    fazgrond_peer peer = FAZGROND_CLOSED;
+    fazgrond_match match = match_of(0), other;
+    open_words(&session, 4, 3, 1, 1);
+    match.words = 2;
+    is_not_opened(&session, &match, FAZGROND_TWO_OWNERS);
+    match.owners[1] = 0;
+    match.owners[2] = 1; /* and the second word of it is nobody's */
+    is_not_opened(&session, &match, FAZGROND_TWO_OWNERS);
+    match.owners[3] = 1;
+    IS(fazgrond_peer_open(&peer, &session, &match), FAZGROND_OK);
+    fazgrond_peer_close(&peer);
+    other = match;
+    other.words = 5;
+    is_not_opened(&session, &other, FAZGROND_INVALID_MACHINE);
+    other.words = 0;
+    is_not_opened(&session, &other, FAZGROND_INVALID_MACHINE);
+    open_words(&session, 4, 3, 0, 0);
+    other.words = 3; /* the places 6 and 7 are too few for one more */
+    for (int at = 0; at < FAZGROND_PLAYERS; at++)
+        other.owners[at] = (uint32_t)at / 3 % 2;
+    is_not_opened(&session, &other, FAZGROND_TOO_MANY_WORDS);
+    open_words(&session, 4, 3, 1, 2);
+    is_not_opened(&session, &match, FAZGROND_UNLIKE_DELAYS);
     fazgrond_close(&session);
 }
 
@@ -279,7 +320,7 @@ static int32_t heard_by(machine *at, size_t come, uint32_t now) {
 }
 
 static int32_t bye_of(machine *at, uint8_t machine, size_t room, size_t *written) {
-    return fazgrond_peer_bye(&at->peer, machine, bytes, room, written);
+    return fazgrond_peer_bye(&at->peer, machine, FAZGROND_BYE_OWN, bytes, room, written);
 }
 
 static void before(machine *one, machine *two) {
@@ -403,6 +444,7 @@ static void after(machine *one, machine *two) {
     IS(heard_by(two, said, 48), FAZGROND_MACHINE_GONE);
     polled(two, 48);
     next_event(two, FAZGROND_LEFT, 0);
+    IS((int32_t)event.bye, FAZGROND_BYE_OWN);
     IS(fazgrond_peer_event(&two->peer, &event), FAZGROND_OK);
     IS((int32_t)event.code, FAZGROND_DISCONNECTED);
     IS((int32_t)event.player, 1);
@@ -474,6 +516,17 @@ static void others(void) {
     pass(&two, &one, 0, 0);
     no_event(&one); /* told once */
     IS(bye_of(&one, 1, sizeof bytes, &length), FAZGROND_NOTHING);
+    match = match_of(1);
+    match.opening = 5; /* another opening state */
+    IS(fazgrond_peer_open(&two.peer, &two.session, &match), FAZGROND_OK);
+    match = match_of(0);
+    match.opening = 6;
+    IS(fazgrond_peer_open(&one.peer, &one.session, &match), FAZGROND_OK);
+    pass(&two, &one, 0, 0);
+    next_event(&one, FAZGROND_SYNCHRONIZING, 1);
+    pass(&one, &two, 1, 0);
+    next_event(&two, FAZGROND_MISMATCH, 0);
+    IS((int32_t)event.field, 6);
     /* a refused match leaves the peer open that was there */
     match.me = 9;
     IS(fazgrond_peer_open(&one.peer, &one.session, &match), FAZGROND_INVALID_MACHINE);
@@ -693,6 +746,7 @@ int main(void) {
     of_another_kind();
     closed_lines();
     not_opened();
+    inputs_not_opened();
     sessions_not_opened();
     started();
     open_both(&one, &two);

@@ -1,10 +1,10 @@
 #!/usr/bin/env python3
-"""The packets that docs/WIRE.md shows, made from its rules, with nothing else of the project: tests/wire.py PAGE [SOURCE..]
+"""The packets that docs/WIRE.md tells of, made from its rules, with nothing else of the project: tests/wire.py PAGE [SOURCE..]
 
-Whatever the page shows in hexadecimal has to be what is made here, and all that is made here has to stand there: the packets, what the
-table of places says of each of them, the numbers and runs of its tables, the steps of the seal, and the sizes. A source (of Rust, or C)
-is searched for arrays of bytes that begin as a packet does: each has to be one of these packets, sealed or not. The last line is
-`N passed, M failed`.
+Whatever the page shows in hexadecimal has to be what is made here: the packets, what the table of places says of each of them, the numbers
+and runs of its tables, the steps of the seal, and the sizes. All packets that are made here stand in tests/vectors/packets.txt. A source (of
+Rust, or C) is searched for arrays of bytes that begin as a packet does: each has to be one of these packets, sealed or not. The last line
+is `N passed, M failed`.
 """
 import hashlib
 import hmac
@@ -15,6 +15,8 @@ from pathlib import Path
 MAGIC = b"FZG4"
 HELLO, PLAY, BYE, MAP, CARRIED, PIECE, ASK = 0, 1, 2, 3, 4, 5, 6
 VIEWER = 255
+CARRIES, LASTS = 1, 2  # what a machine can, in its hellos
+LEAVES, DESYNC, ERROR, OWN_REASONS = 1, 2, 3, range(16, 256)  # why it says bye
 BLOCK = 64  # of SHA-256, in bytes
 # How long the table is that who comes into a match asks for.
 TABLE_BYTES = int(re.search(r"FAZ_TABLE_BYTES = (\d+)", (Path(__file__).parent.parent / "c/rejoin/rejoin.h").read_text())[1])
@@ -73,11 +75,12 @@ def packet(number, sender, kind, rest=b""):
     return MAGIC + fixed(number, 8) + bytes([sender, kind]) + rest
 
 
-def hello(number, sender, match, draw, echo, patience):
-    """A hello: the match has `machines`, `owners` and `digest`, and each input `words` if it hasn't one."""
+def hello(number, sender, match, draw, echo, patience, abilities=0):
+    """A hello: the match has `machines`, `owners`, `digest` and `opening`, and each input `words` if it hasn't one."""
     owners = bytes(match["owners"]) + b"\xff" * (8 - len(match["owners"]))
-    rest = [bytes([match["machines"], match.get("words", 1)]), owners, fixed(match["digest"], 8), fixed(draw, 8), fixed(echo, 8), fixed(patience, 4), b"\0"]
-    return packet(number, sender, HELLO, b"".join(rest))
+    digests = fixed(match["digest"], 8) + fixed(match["opening"], 8)
+    rest = bytes([match["machines"], match.get("words", 1)]) + owners + digests + fixed(draw, 8) + fixed(echo, 8) + fixed(patience, 4)
+    return packet(number, sender, HELLO, rest + bytes([abilities]))
 
 
 def mark(players=(), ticket=0, delays=None, threshold=0):
@@ -97,9 +100,9 @@ def play(number, sender, sent, counts, offers=None, words=(), clocks=None, settl
     return packet(number, sender, PLAY, rest + runs(list(words)))
 
 
-def bye(number, sender):
+def bye(number, sender, why):
     """A bye."""
-    return packet(number, sender, BYE)
+    return packet(number, sender, BYE, bytes([why]))
 
 
 def line_map(number, sender, lines):
@@ -161,7 +164,7 @@ def steps(text, own, other):
 
 NUMBER = 0x1122334455667788
 DRAWS = [0x0102030405060708, 0x1112131415161718]  # of machine 0, and of machine 1
-MATCH = {"machines": 2, "owners": [0, 1], "digest": 0x0123456789ABCDEF}
+MATCH = {"machines": 2, "owners": [0, 1], "digest": 0x0123456789ABCDEF, "opening": 0x5152535455565758}
 THIRD_NUMBER, THIRD_DRAW = 0x8877665544332211, 0x2122232425262728  # of machines 0 and 2; and what machine 2 drew
 LINE = 0x99AABBCCDDEEFF00
 OPTIONS, SAVED = b"speed=2", bytes(range(256)) * 12  # two states
@@ -188,16 +191,18 @@ def examples():
     """Each packet of the page by its name, with the number and sealed."""
     first_clocks = (120, 118, clock(DRAWS[1], 2016), clock(DRAWS[0], 1984), 16)
     turn = play(NUMBER, 1, 130, {0: 119, 1: 123}, {1: (117, 6)}, [0, 0, 5, 5, 5, 7], first_clocks, (110, 0xFEDCBA9876543210))
-    third_bye = sealed(bye(THIRD_NUMBER, 2), THIRD_DRAW, DRAWS[0])
+    third_bye = sealed(bye(THIRD_NUMBER, 2, LEAVES), THIRD_DRAW, DRAWS[0])
     line_clocks = (603, 603, clock(HOST, 10016), clock(GUEST, 9984), 8)
     marks = {1: (121, mark([2], 0x3132333435363738, {1: 3}))}
+    known = {**marks, 0: (118, mark(threshold=6))}
     return {
         "hello": of_match(hello(NUMBER, 1, MATCH, DRAWS[1], DRAWS[0], 5000)),
         "first hello": of_match(hello(NUMBER, 1, MATCH, DRAWS[1], 0, 5000)),
         "turn": of_match(turn),
         "held": of_match(play(NUMBER, 1, 20_010, {0: 19_999, 1: 20_003}, {1: (19_997, 6)}, [5] * 6)),
         "marked": of_match(play(NUMBER, 1, 130, {0: 119, 1: 123}, {1: (117, 6)}, [0, 0, 5, 5, 5, 7], marks=marks)),
-        "bye": of_match(bye(NUMBER, 1)),
+        "told on": of_match(play(NUMBER, 1, 131, {0: 119, 1: 123}, {1: (122, 1)}, [7], marks=known)),
+        "bye": of_match(bye(NUMBER, 1, LEAVES)),
         "map": of_match(line_map(NUMBER, 1, [([0, 1], 2), ([0, 1, 2], 2), ([1, 2], 2)])),
         "carried": of_match(carried(NUMBER, 1, [(0, 6, third_bye)])),
         "viewer's hello": of_line(hello(LINE, VIEWER, MATCH, GUEST, HOST, 3000)),
@@ -301,7 +306,7 @@ def compare_fields(tally, rows, end):
 def compare_tables(tally, lines, made, seal):
     """Compares each table of bytes. The seal's has its steps in their order."""
     named = {sealed: name for name, (_, sealed) in made.items()}
-    ends = iter([14, len(made["hello"][1]), 14 + len(name(0, 0, None)), TABLE_BYTES])
+    ends = iter([14, len(made["hello"][1]), len(made["bye"][1]), 14 + len(name(0, 0, None)), TABLE_BYTES])
     found = tables(lines)
     heads = [", ".join(head) for _, head, _ in found]
     for head in ["Place, Bytes, Field", "Short number, Bytes", "Words, Bytes, Say", "Step, Bytes", "Place, Bytes, Say"]:
@@ -331,8 +336,8 @@ def compare_page(tally, text, made):
     shown = [block for _, block in blocks(lines)]
     for block in shown:
         tally.is_so(block in packets, f"nobody makes {hexed(block)}")
-    for name, (_, packet) in made.items():
-        tally.is_so(shown.count(packet) == 1, f"the page shows {name} {shown.count(packet)} times: {hexed(packet)}")
+    for name in SHOWN:
+        tally.is_so(made[name][1] in shown, f"the page doesn't show {name}: {hexed(made[name][1])}")
     seal = steps(made["bye"][0], DRAWS[1], DRAWS[0])
     tally.is_so(seal[-1] == made["bye"][1], "the seal by its steps, and by the HMAC of Python")
     compare_tables(tally, lines, made, seal)
@@ -341,16 +346,17 @@ def compare_page(tally, text, made):
         tally.is_so(saying in whole, f"the page doesn't say: {saying}")
 
 
+SHOWN = ["hello", "turn"]
+
+
 def sayings(made):
     """What the page has to say of sizes, and of the numbers behind the examples."""
     held = len(made["held"][1])
     return [
         f"`{hexed(MAGIC)}`: the letters `FZG`, and the version, `4`",
-        *(f"0x{number:016x}" for number in [NUMBER, *DRAWS, MATCH["digest"], THIRD_NUMBER, THIRD_DRAW, LINE, HOST, GUEST]),
+        *(f"0x{number:016x}" for number in [NUMBER, *DRAWS, MATCH["digest"], MATCH["opening"]]),
         f"A hello has {len(made['hello'][1])} bytes",
         f"It has {len(made['turn'][1])} bytes:",
-        f"It has {held} bytes:",
-        f"It has {len(made['marked'][1])} bytes, without clocks",
         f"The greatest play has {len(greatest()):,} bytes",
         f"A mark has 4 to {len(short(1 << 31) + mark(range(8), 1, dict.fromkeys(range(8), 1)))} bytes",
         f"has {held} bytes at frame 20,000",
@@ -360,8 +366,6 @@ def sayings(made):
         f"carried has {room():,} bytes at most",
         f"A piece has {len(piece(NUMBER, 0, 1, 0, SAVED, 0)):,} bytes at most",
         f"an ask {len(ask(NUMBER, 1, 1, 0, SAVED, range(ASK_LIMIT)))}",
-        f"The state of {len(OPTIONS)} bytes `{hexed(OPTIONS)}`",
-        f"one of {len(SAVED):,} bytes, 0 to 255 and so on",
     ]
 
 

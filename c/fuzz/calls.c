@@ -474,7 +474,7 @@ static void call_of_peer(subject *self, input *in) {
     case 4:
     case 5: call_beside(self, in, what % 16, room); break;
     case 6:
-        fazgrond_peer_bye(&self->peer, (uint8_t)take_some(in, 4), bytes, room, &length);
+        fazgrond_peer_bye(&self->peer, (uint8_t)take_some(in, 4), (uint8_t)take_some(in, 256), bytes, room, &length);
         MUST(length <= room);
         if (fazgrond_peer_send_more(&self->peer, &to, bytes, room, &length) == FAZGROND_OK)
             MUST(length <= room && to < FAZGROND_MACHINES);

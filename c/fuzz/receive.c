@@ -223,7 +223,7 @@ static void leave(match *self, uint32_t who, uint32_t whom) {
     if (whom % 2 == 0)
         fazgrond_peer_disconnect(&at->peer, (uint8_t)(whom / 2 % self->machines));
     for (uint32_t to = 0; to < self->machines && whom % 2 == 1; to++)
-        if (fazgrond_peer_bye(&at->peer, (uint8_t)to, bye.bytes, sizeof bye.bytes, &bye.length) == FAZGROND_OK)
+        if (fazgrond_peer_bye(&at->peer, (uint8_t)to, FAZGROND_BYE_LEAVES, bye.bytes, sizeof bye.bytes, &bye.length) == FAZGROND_OK)
             hear(self, to, &bye, false);
     uint8_t next;
     while (make_more(self, who % self->machines, &next, &bye))

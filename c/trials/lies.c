@@ -31,12 +31,16 @@ typedef struct lie {
     void (*says)(world *self, packet *made, uint32_t to);                 /* of a play .. */
     size_t (*spoils)(world *self, uint8_t *bytes, size_t length);         /* .. and of its bytes, before they are sealed */
     void (*sends)(world *self, const datagram *sent);                     /* and this goes out too */
+    void (*hears)(packet *made);                                          /* and of plays to it so much comes to its program */
     sealing seal;
     int32_t answer;  /* what the honest ones' library says to it */
     unsigned told;   /* and what they are told, by kinds */
     unsigned maybe;  /* and may be told, or not */
     unsigned first;  /* but of these the first of them has to be told */
     course course;
+    uint32_t words; /* of an input; 0: one */
+    uint32_t stalled_after;
+    uint32_t gives; /* so many words, from the first one on, and then none; 0: as many as it can */
 } lie;
 
 /* ---- What is said. */
@@ -111,9 +115,32 @@ static void no_words(world *self, packet *made, uint32_t to) {
     made->word_count = 0;
 }
 
+/* As if others withheld words from the one to which it says so. */
+static void no_words_and_most_of_others(world *self, packet *made, uint32_t to) {
+    no_words(self, made, to);
+    most_of_others(self, made, to);
+}
+
 static void no_words_to_one(world *self, packet *made, uint32_t to) {
     if (to == 1)
         no_words(self, made, to);
+}
+
+/* As if others kept it from beginning. */
+static void frame_0(world *self, packet *made, uint32_t to) {
+    (void)self, (void)to;
+    made->clocks.frame = 0;
+}
+
+static void no_words_at_frame_0(world *self, packet *made, uint32_t to) {
+    no_words(self, made, to);
+    frame_0(self, made, to);
+}
+
+/* Its program hears clocks, and no words: so it says that it has none of those that come, and waits for them. */
+static void no_words_heard(packet *made) {
+    made->offered = 0;
+    made->word_count = 0;
 }
 
 static void words_of_others(world *self, packet *made, uint32_t to) {
@@ -127,6 +154,24 @@ static void words_of_others(world *self, packet *made, uint32_t to) {
     made->offered |= 1;
     made->count[0] = 1;
     made->first[0] = made->counts[0] - 1;
+}
+
+/* An input is two words: it says more of one than of the other .. */
+static void other_count_of_a_word(world *self, packet *made, uint32_t to) {
+    (void)self, (void)to;
+    made->counted |= 1 << (2 * LIAR + 1);
+    made->counts[2 * LIAR + 1]++;
+}
+
+/* .. or tells it of another frame, as if a word before had come. */
+static void other_frame_of_a_word(world *self, packet *made, uint32_t to) {
+    if ((made->offered >> (2 * LIAR + 1) & 1) == 0) {
+        other_count_of_a_word(self, made, to);
+        return;
+    }
+    made->first[2 * LIAR + 1]++;
+    made->counts[2 * LIAR]++;
+    made->counts[2 * LIAR + 1]++;
 }
 
 static void empty_offer(world *self, packet *made, uint32_t to) {
@@ -189,6 +234,11 @@ static bool is_hello(world *self, packet *made, uint32_t to) {
     return true;
 }
 
+static void draw_of_0(world *self, packet *made, uint32_t to) {
+    if (is_hello(self, made, to))
+        made->draw = 0;
+}
+
 static void hellos(world *self, packet *made, uint32_t to) { (void)is_hello(self, made, to); }
 
 static void more_machines(world *self, packet *made, uint32_t to) {
@@ -204,6 +254,17 @@ static void other_owners(world *self, packet *made, uint32_t to) {
 static void other_digest(world *self, packet *made, uint32_t to) {
     if (is_hello(self, made, to))
         made->digest ^= 1;
+}
+
+static void other_opening(world *self, packet *made, uint32_t to) {
+    if (is_hello(self, made, to))
+        made->opening ^= 1;
+}
+
+/* It goes on in epochs. */
+static void lasts(world *self, packet *made, uint32_t to) {
+    if (is_hello(self, made, to))
+        made->abilities |= LASTS;
 }
 
 static void other_fields_in_turn(world *self, packet *made, uint32_t to) {
@@ -225,6 +286,12 @@ static void restarted(world *self, packet *made, uint32_t to) {
         made->draw = 12345;
 }
 
+/* Of these draws one is none. */
+static void restarted_in_turn(world *self, packet *made, uint32_t to) {
+    if (is_hello(self, made, to))
+        made->draw = time_of(self) % 2 == 0 ? 0 : 77;
+}
+
 static void restarted_again_and_again(world *self, packet *made, uint32_t to) {
     if (is_hello(self, made, to))
         made->draw = 12345 + time_of(self);
@@ -244,7 +311,7 @@ static void other_patience(world *self, packet *made, uint32_t to) {
 
 static void abilities(world *self, packet *made, uint32_t to) {
     if (is_hello(self, made, to))
-        made->abilities = 255;
+        made->abilities = 255 & ~LASTS;
 }
 
 static void no_clocks(world *self, packet *made, uint32_t to) {
@@ -441,7 +508,12 @@ enum { OUT = MAY_REFUSE | MAY_INTERRUPT | MAY_STALL | MAY_LEAVE, UNHEARD = MAY_I
 /* Who says that it has given words, and doesn't send them, isn't told from one whose words are lost, nor always called stalled. */
 #define WITHHOLDS(what) \
     { .name = #what, .says = what, .answer = FAZGROND_OK, .told = 0, .maybe = MAY_STALL, .course = STANDS }
+/* Who gives none, or takes none, is put out for that, whatever else it says. */
+#define PUT_OUT .answer = FAZGROND_OK, .told = MAY_STALL | MAY_LEAVE, .course = GOES_ON, .stalled_after = 2000
+#define HOLDS_UP(what) { .name = #what, .says = what, PUT_OUT }
 #define SAYS(what, code, kinds, then) { .name = #what, .says = what, .answer = code, .told = kinds, .course = then }
+#define OF_TWO_WORDS(what) \
+    { .name = #what, .says = what, .answer = FAZGROND_OUTSIDE, .told = OUT, .course = GOES_ON, .words = 2 }
 #define SPOILS(what, code, kinds) { .name = #what, .spoils = what, .answer = code, .told = kinds, .course = GOES_ON }
 #define SEALS(what) \
     { .name = #what, .seal = what, .answer = FAZGROND_NOT_SEALED, .told = UNHEARD, .course = GOES_ON }
@@ -460,7 +532,13 @@ static const lie lies[] = {
     WITHHOLDS(gap),
     WITHHOLDS(no_words),
     WITHHOLDS(no_words_to_one),
+    HOLDS_UP(no_words_at_frame_0),
+    HOLDS_UP(no_words_and_most_of_others),
+    { .name = "no_words_heard", .hears = no_words_heard, PUT_OUT },
+    { .name = "no_words_heard, for ever", .hears = no_words_heard, .answer = FAZGROND_OK, .told = MAY_STALL, .course = STANDS },
     SAYS(words_of_others, FAZGROND_OK, 0, GOES_ON),
+    OF_TWO_WORDS(other_count_of_a_word),
+    OF_TWO_WORDS(other_frame_of_a_word),
     SAYS(empty_offer, FAZGROND_OK, 0, GOES_ON),
     SAYS(empty_offer_of_nothing, FAZGROND_NO_DATAGRAM, OUT, GOES_ON),
     SAYS(too_many_words, FAZGROND_NO_DATAGRAM, OUT, GOES_ON),
@@ -472,11 +550,15 @@ static const lie lies[] = {
     SAYS(more_machines, FAZGROND_OK, MAY_MISMATCH, GOES_ON),
     SAYS(other_owners, FAZGROND_OK, MAY_MISMATCH, GOES_ON),
     SAYS(other_digest, FAZGROND_OK, MAY_MISMATCH, GOES_ON),
+    SAYS(other_opening, FAZGROND_OK, MAY_MISMATCH, GOES_ON),
+    SAYS(lasts, FAZGROND_OK, MAY_MISMATCH, GOES_ON),
     SAYS(other_fields_in_turn, FAZGROND_OK, MAY_MISMATCH, GOES_ON),
     SAYS(other_fields_unechoed, FAZGROND_OK, 0, GOES_ON),
     SAYS(restarted, FAZGROND_OK, MAY_RESTART, GOES_ON),
     SAYS(restarted_again_and_again, FAZGROND_OK, MAY_RESTART, GOES_ON),
+    SAYS(restarted_in_turn, FAZGROND_OK, MAY_RESTART, GOES_ON),
     SAYS(other_draws_unechoed, FAZGROND_OK, 0, GOES_ON),
+    SAYS(draw_of_0, FAZGROND_OK, 0, GOES_ON),
     SAYS(other_patience, FAZGROND_OK, 0, GOES_ON),
     SAYS(abilities, FAZGROND_OK, 0, GOES_ON),
     SAYS(no_clocks, FAZGROND_OK, MAY_LEAVE, GOES_ON),
@@ -550,6 +632,12 @@ static bool lies_now(world *self, datagram *sent) {
     packet made;
     if (one->sends != NULL)
         one->sends(self, sent);
+    if (one->hears != NULL && sent->to == LIAR && packet_read(sent->bytes, sent->length, &made) && made.kind == PLAY) {
+        one->hears(&made);
+        sent->length = packet_write(&made, sent->bytes);
+        seal(sent->bytes, sent->length,
+             (seal_key){ self->numbers[LIAR][sent->from], self->machine[sent->from].draw, self->machine[LIAR].draw });
+    }
     if (sent->from != LIAR || !packet_read(sent->bytes, sent->length, &made) || made.kind != PLAY)
         return true;
     if (one->says != NULL)
@@ -593,6 +681,7 @@ static void must_be_answered(world *self, const lie *one, uint32_t who, const ui
     trial_must_of((told & ~one->maybe) == (one->told & ~one->maybe), who, text);
     trial_must_of(who != 0 || (told & one->first) == one->first, who, text);
     trial_must_of(world_told(self, who, FAZGROND_REFUSED, LIAR) == (one->told & MAY_REFUSE ? 1 : 0), who, "REFUSED is told once");
+    trial_must_of(world_told(self, who, FAZGROND_RESTARTED, LIAR) <= 1, who, "RESTARTED is told once");
 }
 
 static void lie_to_them(const lie *one, uint32_t seed) {
@@ -600,6 +689,9 @@ static void lie_to_them(const lie *one, uint32_t seed) {
     uint32_t before[HONEST][CODES];
     with.machines = 3;
     with.silent_after = SILENT_AFTER;
+    with.words = one->words;
+    with.stalled_after = one->stalled_after;
+    with.last_waits = true;
     with.has_pair_numbers = one->sends == as_another;
     with.input_delay = seed % 3;
     with.seed = seed;
@@ -627,8 +719,52 @@ static void lie_to_them(const lie *one, uint32_t seed) {
     world_end(self);
 }
 
+/* ---- A liar that never was past frame 0, as it says. */
+
+static void gives_no_more(world *self, uint32_t who) {
+    const lie *one = self->watchers;
+    machine *at = &self->machine[who];
+    at->is_stalled |= who == LIAR && at->frame + self->setup.input_delay >= one->gives;
+}
+
+static void must_be_out(world *self, uint32_t who, bool is_out) {
+    trial_must_of(world_told(self, who, FAZGROND_STALLED, LIAR) == 1, who, "STALLED is told once");
+    trial_must_of((world_gone_in(self, who, FAZGROND_STALLED, LIAR) > 0) == is_out, who, "it is told whether it will be gone");
+    trial_must_of(world_told(self, who, FAZGROND_LEFT, LIAR) == is_out, who, is_out ? "it is put out" : "it is waited for");
+}
+
+/* With a delay of 8 a machine gives 9 words at frame 0. If it gives no more, others may keep it from going on; else nobody does. */
+static void lie_at_frame_0(uint32_t gives, uint32_t input_delay, uint32_t seed) {
+    lie one = { .says = frame_0, .gives = gives };
+    setup with = plain;
+    bool is_out = gives > 9;
+    with.machines = 3;
+    with.silent_after = SILENT_AFTER;
+    with.stalled_after = 2000;
+    with.last_waits = true;
+    with.input_delay = input_delay;
+    with.seed = seed;
+    trial_case("a lie: frame 0 after %u words, delay %u, seed %u", (unsigned)gives, (unsigned)input_delay, (unsigned)seed);
+    world *self = world_begin(&with);
+    self->watcher = lies_now;
+    self->watchers = &one;
+    self->after_turn = gives_no_more;
+    world_open_all(self);
+    world_run(self, LIES_FOR);
+    self->machine[LIAR].is_dead = true; /* it is told that the others regard it as gone */
+    for (uint32_t who = 0; who < HONEST; who++)
+        must_be_out(self, who, is_out);
+    trial_must(!is_out || world_agree(self, 0, 1, gives + 200), "the match goes on");
+    trial_only_of(self, LIAR, MAY_STALL | MAY_LEAVE);
+    world_end(self);
+}
+
 void trial_lies(uint32_t count, uint32_t seed) {
-    for (uint32_t time = 0; time < count; time++)
+    for (uint32_t time = 0; time < count; time++) {
         for (size_t at = 0; at < sizeof lies / sizeof *lies; at++)
             lie_to_them(&lies[at], seed + time);
+        for (uint32_t gives = 9; gives <= 30; gives += gives < 12 ? 1 : 18)
+            for (uint32_t input_delay = 0; input_delay <= 8; input_delay += 4)
+                lie_at_frame_0(gives, input_delay, seed + time);
+    }
 }

@@ -59,6 +59,7 @@ static void break_and_heal(uint32_t seed) {
     with.carries = true;
     with.held_turns = seed / 2 % 3;
     with.silent_after = 2000;
+    with.stalled_after = 1000;
     with.delay = 10 + seed * 37 % 61;
     with.jitter = seed * 13 % 20;
     with.loss = seed % 3 * 10;

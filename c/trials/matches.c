@@ -176,13 +176,23 @@ static void patient(uint32_t machines, uint32_t notify_after, uint32_t seed) {
 static void must_be_stalled(world *self, uint32_t which, uint32_t since) {
     uint32_t stalled_after = self->setup.stalled_after;
     for (uint32_t who = 0; who < self->setup.machines; who++) {
-        if (who == which)
+        if (who == which || !self->machine[who].is_open)
             continue;
         uint32_t told_at = world_told_at(self, who, FAZGROND_STALLED, which);
         trial_must_of(world_told(self, who, FAZGROND_STALLED, which) == 1, who, "STALLED is told, once");
         trial_must_of(told_at > since + 700 && told_at < since + 1300, who, "STALLED is told in time");
         trial_must_of(world_told(self, who, FAZGROND_LEFT, which) == (stalled_after == 0 ? 0 : 1), who,
                       "who is stalled is put out, or waited for for ever");
+    }
+}
+
+static void must_be_gone_as_told(world *self, uint32_t which) {
+    for (uint32_t who = 0; who < self->setup.machines; who++) {
+        if (who == which || !self->machine[who].is_open)
+            continue;
+        uint32_t due = world_told_at(self, who, FAZGROND_STALLED, which) + world_gone_in(self, who, FAZGROND_STALLED, which);
+        uint32_t left_at = world_told_at(self, who, FAZGROND_LEFT, which);
+        trial_must_of(left_at + 50 > due && left_at < due + 50, who, "it is gone as STALLED has said");
     }
 }
 
@@ -197,11 +207,39 @@ static void stalled(uint32_t machines, uint32_t which, uint32_t stalled_after, u
     must_be_stalled(self, which, since);
     self->machine[which].is_stalled = false;
     world_run(self, 8000);
-    if (stalled_after > 0)
+    if (stalled_after > 0) {
         self->machine[which].is_dead = true; /* it is told that all others are silent */
+        must_be_gone_as_told(self, which);
+    }
     trial_only_of(self, which, MAY_STALL | MAY_LEAVE);
     must_go_on(self, stalled_after > 0 ? which : NOBODY, frames + 300);
     trial_must(stalled_after > 0 || self->machine[which].settled > frames + 300, "the one that was waited for goes on");
+    world_end(self);
+}
+
+/* The last machine leaves, and so many frames later another one gives no words any more: it is put out whenever that is; but sooner or later,
+ * as whoever might keep it can still be there or not. */
+static void stalled_after_another_left(uint32_t machines, uint32_t frames, uint32_t input_delay, uint32_t seed) {
+    uint32_t which = seed % (machines - 1), first = which == 0 ? 1 : 0;
+    trial_case("one of %u is stalled %u frames after another left, delay %u, seed %u", (unsigned)machines, (unsigned)frames,
+               (unsigned)input_delay, (unsigned)seed);
+    world *self = three_or_four(machines, 2000, input_delay, seed);
+    const machine *at = &self->machine[which];
+    uint32_t until = at->frame + frames;
+    world_leave(self, machines - 1);
+    for (uint32_t passed = 0; passed < 2000 && at->frame < until; passed++)
+        world_run(self, 1);
+    uint32_t since = world_millis(self);
+    trial_must(at->frame == until, "it plays on until then");
+    self->machine[which].is_stalled = true;
+    world_run(self, 10000);
+    self->machine[which].is_dead = true; /* it is told that all others are silent */
+    must_be_stalled(self, which, since);
+    must_be_gone_as_told(self, which);
+    trial_nothing_but(self, MAY_STALL | MAY_LEAVE);
+    for (uint32_t who = 0; who + 1 < machines; who++)
+        if (who != which)
+            trial_must_of(world_agree(self, first, who, until + 100), who, "the match goes on, and all agree");
     world_end(self);
 }
 
@@ -246,6 +284,8 @@ void trial_stalls(uint32_t count, uint32_t seed) {
                 stalled(machines, which, 0, input_delay, seed + time);
                 stalled(machines, which, 3000, input_delay, seed + time);
             }
+            for (uint32_t frames = 0; machines > 2 && frames < 28; frames++)
+                stalled_after_another_left(machines, frames, frames % 2 * 8, seed + time);
             patient(machines, 0, seed + time);
             patient(machines, 750, seed + time);
             slow(machines, which, 6, 0, seed + time);

@@ -45,6 +45,7 @@ static void put_hello(writer *out, const packet *made) {
     for (int at = 0; at < 8; at++)
         put(out, made->owners[at]);
     put_fixed(out, made->digest, 8);
+    put_fixed(out, made->opening, 8);
     put_fixed(out, made->draw, 8);
     put_fixed(out, made->echo, 8);
     put_fixed(out, made->patience, 4);
@@ -92,7 +93,9 @@ size_t packet_write(const packet *made, uint8_t *out) {
     put(&to, made->kind);
     if (made->kind == HELLO)
         put_hello(&to, made);
-    else if (made->kind != BYE)
+    else if (made->kind == BYE)
+        put(&to, made->why);
+    else
         put_play(&to, made);
     return to.length;
 }
@@ -147,6 +150,7 @@ static void take_hello(reader *in, packet *read) {
     for (int at = 0; at < 8; at++)
         read->owners[at] = (uint8_t)take(in);
     read->digest = take_fixed(in, 8);
+    read->opening = take_fixed(in, 8);
     read->draw = take_fixed(in, 8);
     read->echo = take_fixed(in, 8);
     read->patience = (uint32_t)take_fixed(in, 4);
@@ -199,6 +203,8 @@ bool packet_read(const uint8_t *bytes, size_t length, packet *read) {
         take_hello(&in, read);
     else if (read->kind == PLAY)
         take_play(&in, read);
+    else if (read->kind == BYE)
+        read->why = (uint8_t)take(&in);
     return !in.is_bad && in.left == 0 && read->kind <= BYE;
 }
 

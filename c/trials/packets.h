@@ -12,6 +12,9 @@ enum { PACKET_TAG = 4, PACKET_SENDER = 12, PACKET_KIND = 13, PACKET_BODY = 14, P
 
 enum { HELLO = 0, PLAY = 1, BYE = 2 };
 
+/* Of the abilities of a hello: its match goes on in epochs. */
+enum { LASTS = 2 };
+
 typedef struct packet_clocks {
     uint32_t frame, heard_frame, clock, heard_clock, held;
 } packet_clocks;
@@ -20,8 +23,10 @@ typedef struct packet {
     uint8_t sender, kind;
     /* a hello */
     uint8_t machines, input_words, owners[8], abilities;
-    uint64_t digest, draw, echo;
+    uint64_t digest, opening, draw, echo;
     uint32_t patience;
+    /* a bye */
+    uint8_t why;
     /* a play */
     uint32_t number;
     bool has_clocks, has_settled;

@@ -22,7 +22,8 @@ static const char usage[] =
 static struct {
     long machines, players, rate, seconds, seed, delay, jitter, loss, copies, silent, notify, stalled, input_delay, last, held;
     bool carries, is_idle, has_pairs, has_buttons, has_guesses;
-} self = { .machines = 2, .rate = 60, .seconds = 10, .seed = 1, .delay = 20, .silent = 5000, .notify = 750 };
+} self = { .machines = 2, .rate = 60, .seconds = 10, .seed = 1, .delay = 20, .silent = FAZGROND_SILENT_AFTER,
+           .notify = FAZGROND_NOTIFY_AFTER };
 
 static const option options[] = {
     { "--machines", &self.machines, NULL, NULL }, { "--players", &self.players, NULL, NULL },

@@ -5,7 +5,8 @@
 
 enum { MOST_AT_ONCE = 256, BYES = 3, REQUESTS = 16 };
 
-const setup plain = { .machines = 2, .rate = 60, .delay = 20, .silent_after = 5000, .notify_after = 750, .seed = 1 };
+const setup plain = { .machines = 2, .rate = 60, .delay = 20, .silent_after = FAZGROND_SILENT_AFTER,
+                      .notify_after = FAZGROND_NOTIFY_AFTER, .seed = 1 };
 
 static world the_world;
 
@@ -178,10 +179,12 @@ void world_carry_out(world *self, uint32_t who) {
 
 /* ---- A machine. */
 
-static uint32_t players_of(const setup *with) { return with->players != 0 ? with->players : with->machines; }
+static uint32_t words_of(const setup *with) { return with->words != 0 ? with->words : 1; }
+
+static uint32_t players_of(const setup *with) { return with->players != 0 ? with->players : with->machines * words_of(with); }
 
 static uint32_t owner_of(const setup *with, uint32_t player) {
-    return player < players_of(with) ? player % with->machines : FAZGROND_NO_PLAYER;
+    return player < players_of(with) ? player / words_of(with) % with->machines : FAZGROND_NO_PLAYER;
 }
 
 fazgrond_settings world_settings(const world *self, uint32_t who) {
@@ -207,8 +210,9 @@ static fazgrond_match match_of(const world *self, uint32_t who) {
         made.numbers[other] = self->numbers[who][other];
     made.silent_after = who == 0 && with->silent_first != 0 ? with->silent_first : with->silent_after;
     made.notify_after = with->notify_after;
-    made.stalled_after = with->stalled_after;
+    made.stalled_after = with->last_waits && who + 1 == with->machines ? 0 : with->stalled_after;
     made.held_turns = with->held_turns;
+    made.words = words_of(with);
     return made;
 }
 
@@ -267,7 +271,7 @@ void world_leave(world *self, uint32_t who) {
     machine *at = &self->machine[who];
     datagram said = { .from = who };
     for (said.to = 0; said.to < self->setup.machines; said.to++)
-        if (fazgrond_peer_bye(&at->peer, (uint8_t)said.to, said.bytes, FAZGROND_DATAGRAM, &said.length) == FAZGROND_OK)
+        if (fazgrond_peer_bye(&at->peer, (uint8_t)said.to, FAZGROND_BYE_LEAVES, said.bytes, FAZGROND_DATAGRAM, &said.length) == FAZGROND_OK)
             for (int times = 0; times < BYES; times++)
                 post(self, &said);
     send_more(self, who);
@@ -512,11 +516,20 @@ uint32_t world_told(const world *self, uint32_t who, uint32_t code, uint32_t of)
     return count;
 }
 
-uint32_t world_told_at(const world *self, uint32_t who, uint32_t code, uint32_t of) {
+/* What it was told first, or nothing. */
+static told first_told(const world *self, uint32_t who, uint32_t code, uint32_t of) {
     for (size_t at = 0; at < self->events; at++)
         if (is_this(self, &self->told[at], who, code, of))
-            return (uint32_t)self->told[at].at;
-    return 0;
+            return self->told[at];
+    return (told){ 0 };
+}
+
+uint32_t world_told_at(const world *self, uint32_t who, uint32_t code, uint32_t of) {
+    return (uint32_t)first_told(self, who, code, of).at;
+}
+
+uint32_t world_gone_in(const world *self, uint32_t who, uint32_t code, uint32_t of) {
+    return first_told(self, who, code, of).event.disconnect_in;
 }
 
 bool world_agree(const world *self, uint32_t one, uint32_t other, uint32_t frames) {

@@ -12,7 +12,8 @@ enum { MACHINES = FAZGROND_MACHINES, SLOTS = 512, MOST_TOLD = 1 << 15, CODES = 3
 
 typedef struct setup {
     uint32_t machines;      /* each has one player, or more if there are more players */
-    uint32_t players;       /* 0: as many as machines */
+    uint32_t players;       /* 0: as many as machines have words of an input */
+    uint32_t words;         /* an input is so many players' words; 0: one */
     uint32_t rate;          /* turns a second */
     uint32_t delay, jitter; /* milliseconds one way: at least so many, and so many more at most */
     uint32_t loss, copies;  /* of a hundred datagrams: how many are lost, and how many come twice */
@@ -26,6 +27,7 @@ typedef struct setup {
     bool has_pair_numbers;  /* each two machines have a number of their own */
     bool is_idle;           /* all words are 0 */
     bool is_button;         /* or 0 and 1: a button that is held or not */
+    bool last_waits;        /* the last machine puts nobody out for giving no words */
     uint64_t seed;
 } setup;
 
@@ -146,6 +148,9 @@ uint32_t world_clock(const world *self, uint32_t who);
 enum { NOBODY = 99 };
 uint32_t world_told(const world *self, uint32_t who, uint32_t code, uint32_t of);
 uint32_t world_told_at(const world *self, uint32_t who, uint32_t code, uint32_t of);
+
+/* In how many milliseconds it would be gone, as that said first. */
+uint32_t world_gone_in(const world *self, uint32_t who, uint32_t code, uint32_t of);
 
 /* Whether two machines have the same state after each row that both have settled, and at least so many. */
 bool world_agree(const world *self, uint32_t one, uint32_t other, uint32_t frames);

@@ -48,8 +48,8 @@ CALL(int32_t, fazgrond_peer_send,
 CALL(int32_t, fazgrond_peer_send_more,
      (fazgrond_peer *peer, uint8_t *machine, uint8_t *out, size_t room, size_t *length),
      (peer, machine, out, room, length))
-CALL(int32_t, fazgrond_peer_bye, (fazgrond_peer *peer, uint8_t machine, uint8_t *out, size_t room, size_t *length),
-     (peer, machine, out, room, length))
+CALL(int32_t, fazgrond_peer_bye, (fazgrond_peer *peer, uint8_t machine, uint8_t why, uint8_t *out, size_t room, size_t *length),
+     (peer, machine, why, out, room, length))
 CALL(int32_t, fazgrond_peer_disconnect, (fazgrond_peer *peer, uint8_t machine), (peer, machine))
 CALL(int32_t, fazgrond_peer_note_settled, (fazgrond_peer *peer, fazgrond_session *session, uint64_t digest),
      (peer, session, digest))
