@@ -1895,8 +1895,8 @@ static int32_t opened(const fazgrond_match *match, const fazgrond_epoch *epoch) 
     return code;
 }
 
-/* An epoch that isn't this session's, and sizes that aren't those of this version. What of the match the epoch says too isn't read. */
-static void refuses_openings(uint32_t unused, uint32_t none) {
+/* An epoch that isn't this session's, and sizes that aren't those of this version. */
+static void refuses_terms(uint32_t unused, uint32_t none) {
     (void)unused, (void)none;
     begin(terms_for(2));
     with.delays[0] = 2;
@@ -1912,10 +1912,30 @@ static void refuses_openings(uint32_t unused, uint32_t none) {
     other.delays[1] = 3; /* another machine's */
     OK(opened(&match, &other));
     other = epoch;
+    other.size++;
+    IS(opened(&match, &other), FAZGROND_OTHER_VERSION);
+    other = epoch;
+    other.owners[0] = 1;
+    other.owners[1] = 0;
+    IS(opened(&match, &other), FAZGROND_INVALID_PLAYER);
+}
+
+/* All words of an input have one delay and one owner, and there are 8 words in all. */
+static void refuses_inputs(uint32_t unused, uint32_t none) {
+    (void)unused, (void)none;
+    begin(terms_for(2));
+    with.delays[0] = 2;
+    fazgrond_epoch epoch = first_epoch(), other = epoch;
+    fazgrond_match match = match_of(0);
+    open_session(0, &epoch, (state){ 1, 0 });
     other.words = 2;
     IS(opened(&match, &other), FAZGROND_UNLIKE_DELAYS);
     other.delays[1] = 2;
     IS(opened(&match, &other), FAZGROND_TWO_OWNERS);
+    other = epoch;
+    other.words = 5;
+    other.delays[1] = 2;
+    IS(opened(&match, &other), FAZGROND_INVALID_MACHINE);
     fazgrond_close(&all[0].session);
     with.delays[0] = 0;
     other = first_epoch();
@@ -1924,19 +1944,15 @@ static void refuses_openings(uint32_t unused, uint32_t none) {
     for (uint32_t at = 0; at < FAZGROND_PLAYERS; at++)
         other.owners[at] = at / 3 % 2;
     IS(opened(&match, &other), FAZGROND_TOO_MANY_WORDS);
-    fazgrond_close(&all[0].session);
+}
+
+/* Sizes, draws and numbers of a match. What of the match the epoch says too isn't read. */
+static void refuses_matches(uint32_t unused, uint32_t none) {
+    (void)unused, (void)none;
+    begin(terms_for(2));
+    fazgrond_epoch epoch = first_epoch();
+    fazgrond_match match = match_of(0);
     open_session(0, &epoch, (state){ 1, 0 });
-    other = epoch;
-    other.words = 5;
-    other.delays[1] = 2;
-    IS(opened(&match, &other), FAZGROND_INVALID_MACHINE);
-    other = epoch;
-    other.size++;
-    IS(opened(&match, &other), FAZGROND_OTHER_VERSION);
-    other = epoch;
-    other.owners[0] = 1;
-    other.owners[1] = 0;
-    IS(opened(&match, &other), FAZGROND_INVALID_PLAYER);
     match.size--;
     IS(opened(&match, &epoch), FAZGROND_OTHER_VERSION);
     match.size++;
@@ -2165,7 +2181,9 @@ static void try_refusals(void) {
     tries("marks are refused", refuses_marks, 0, 0);
     tries("closed handles", refuses_closed, 0, 0);
     tries("closed lines", refuses_closed_lines, 0, 0);
-    tries("openings are refused", refuses_openings, 0, 0);
+    tries("openings with other terms are refused", refuses_terms, 0, 0);
+    tries("openings with unlike words of an input are refused", refuses_inputs, 0, 0);
+    tries("openings of other matches are refused", refuses_matches, 0, 0);
     tries("another session", refuses_another_session, 0, 0);
     tries("a match without epochs", has_no_epochs, 0, 0);
     tries("a match without epochs that carries", has_no_epochs, 1, 0);

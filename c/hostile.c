@@ -556,10 +556,10 @@ int main(int count, char **words) {
         ends();
     }
     of_what = "a state in pieces";
-    while (lies < wanted) {
+    do {
         takes_a_state(2000);
         ends();
-    }
+    } while (lies < wanted);
     printf("%u lies;", (unsigned)lies);
     for (int code = 0; code < CODES; code++)
         if (answered[code] > 0)
