@@ -76,7 +76,7 @@ plays_on peer now m =
     is_fenced peer.member.mesh.seat peer.member.mesh.machine m
     || (has_come peer now m && has_begun peer m)
 
--- for how long this network has been open past the time for which one who comes is waited for
+-- for how long this network has been open past the time after which one that was silent in the epoch before is gone
 abbrev pub overtime : Peered → ℕ → ℕ
 overtime peer now = since now peer.opened - patience_of peer.settings
 

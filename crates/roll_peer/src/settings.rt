@@ -30,8 +30,8 @@ pub struct MatchSettings {
     pub digest: u64,
     /// A digest of the state with which the game opens: the same at all machines.
     pub opening: u64,
-    /// After how many milliseconds of silence a machine is regarded as gone; 0: never. So long one who comes with an epoch is waited for,
-    /// or 10 seconds if this is 0.
+    /// After how many milliseconds of silence a machine is regarded as gone; 0: never. Twice as long one who comes with an epoch is
+    /// waited for, or 10 seconds if this is 0.
     pub silent_after: u32,
     /// After how many milliseconds of silence `Interrupted` is told, and `Stalled` of a machine that holds up the match; 0: never.
     pub notify_after: u32,

@@ -173,7 +173,7 @@ impl Peer {
         self.follows && !self.plays_on(machine, now) && self.settings.stalled_after > 0
     }
 
-    /// For how long this network has been open past the time for which one who comes is waited for.
+    /// For how long this network has been open past the time after which one that was silent in the epoch before is gone.
     fn overtime(&self, now: u32) -> u32
         ensures { result ≡ overtime self.now now }
     {
