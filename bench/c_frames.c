@@ -1,4 +1,4 @@
-/* What a frame costs through C: make -C c bench
+/* What a frame costs through C: make bench
  *
  * Two players, a game of one number. Each line is the least of nine runs; a frame is all calls and requests of a turn. Beside each
  * is the same match by GGPO's policy with callbacks, in plain C: if a prediction was wrong, it loads the state before the first wrong

@@ -1,4 +1,4 @@
-/* What a seam of a match that goes on in epochs costs through C: make -C c seams
+/* What a seam of a match that goes on in epochs costs through C: make seams
  *
  * Machines in one process, with a state of 64 KB that the game copies as it saves and loads. Datagrams come six turns later. Machine 0
  * puts a mark that changes nothing in each fortieth turn, and each machine's own call of fazgrond_peer_go_on is timed where it goes on: by

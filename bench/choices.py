@@ -1,7 +1,8 @@
 """Measures which guesses are worth making: python3 bench/choices.py [ROLLDUEL], or --parts [TRIALS]
 
 Two players and 1,000 frames. Each player's words are among four, and are held for 3, 10 or 30 frames on average; or they are
-those of the bots of c/duel, which take another of sixteen words in one frame of eight. Player 2's are heard 0 to 8 frames late, in order, and told with a sync. After each advance guesses of them are made, in the order of
+those of the bots of programs/duel, which take another of sixteen words in one frame of eight. Player 2's are
+heard 0 to 8 frames late, in order, and told with a sync. After each advance guesses of them are made, in the order of
 a rule, until so many of them gave jobs; each job is run, and its branch grafted. Counted are the frames that the syncs ran
 again, as a share of those that GGPO runs again on the same words.
 
@@ -9,8 +10,8 @@ Which states are kept is followed here, by their paths, so the table needs no pr
 each match are played through it too, as a script, and it must count the same jobs and the same frames. And a second table is
 printed, of 20 of its own matches for each number of jobs: `rollduel match --guesses best`.
 
-With --parts the players of c/trials/habits.c are measured: one who plays with a pad, and one who has four words. The guesses are
-chosen by whole words, by parts, and by what foresaw more. TRIALS is the program of c/trials: it must count the same
+With --parts the players of tests/c/trials/habits.c are measured: one who plays with a pad, and one who has four words. The guesses are
+chosen by whole words, by parts, and by what foresaw more. TRIALS is the program of tests/c/trials: it must count the same
 frames and jobs, unless there was no room for the states of some; this follows no such limit.
 
 The choosers are written again here from their definitions, crates/roll_guess/specs.
@@ -192,7 +193,7 @@ class BothChooser:
 
 
 class Player:
-    """The players of c/trials/habits.c."""
+    """The players of tests/c/trials/habits.c."""
 
     WAYS, FEW = (16, 32, 64, 128, 64, 128), (0, 64, 128, 256)
 
@@ -236,7 +237,7 @@ PAD = (240, 256, 1, 2, 4, 8, 512, 1024, 2048)
 
 
 def bot(seed, number):
-    """The words of a bot of c/duel, as `draw_word` there has them."""
+    """The words of a bot of programs/duel, as `draw_word` there has them."""
     state, word = 0x9E3779B97F4A7C15 * (4 * seed + number) % 2**64, 0
     while True:
         yield word
@@ -265,7 +266,7 @@ class Match:
 
     @staticmethod
     def of(kind, frames, seed):
-        """A match of c/trials/habits.c."""
+        """A match of tests/c/trials/habits.c."""
         match = Match.__new__(Match)
         one, two, line = Player(kind, 2 * seed), Player(kind, 2 * seed + 1), Player(kind, seed)
         late, match.own, match.words = [], [], []

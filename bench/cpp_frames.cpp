@@ -1,4 +1,4 @@
-// What a turn costs by the classes of C++: g++ -std=c++17 -O2 -Ic bench/cpp_frames.cpp c/out/libfazgrond.a, after `make -C c`.
+// What a turn costs by the classes of C++: g++ -std=c++17 -O2 -Iinclude bench/cpp_frames.cpp out/libfazgrond.a, after `make`.
 //
 // The games are those of bench/c_frames.c: a frame is all calls and requests of a turn, and each line is the least of nine runs.
 // The last one is two machines with peers beside their sessions: a turn of one is all its calls, with a datagram that comes and

@@ -1,5 +1,5 @@
-// What a turn costs in C#: mcs -unsafe -optimize+ -out:cs_frames.exe c/fazgrond.cs bench/cs_frames.cs, after `make -C c`, and
-// LD_LIBRARY_PATH=c/out mono cs_frames.exe.
+// What a turn costs in C#: mcs -unsafe -optimize+ -out:cs_frames.exe bindings/csharp/fazgrond.cs bench/cs_frames.cs, after `make`, and
+// LD_LIBRARY_PATH=out mono cs_frames.exe.
 //
 // The games are those of bench/c_frames.c: a frame is all calls and requests of a turn, and each line is the least of nine runs.
 // The last one is two machines with peers beside their sessions: a turn of one is all its calls, with a datagram that comes and

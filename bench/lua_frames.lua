@@ -1,6 +1,6 @@
--- What a turn costs in LuaJIT: luajit bench/lua_frames.lua, after `make -C c bench`, with LUA_PATH and FAZGROND_LIBRARY as
--- lua/test has them. The games are those of bench/c_frames.c: a frame is all calls and requests of a turn, and each line is the
--- least of nine runs. The last one is two machines with peers beside their sessions: a turn of one is all its calls, with a
+-- What a turn costs in LuaJIT: luajit bench/lua_frames.lua, after `make bench`, with LUA_PATH and FAZGROND_LIBRARY as
+-- tests/bindings/lua/test has them. The games are those of bench/c_frames.c: a frame is all calls and requests of a turn, and each line is
+-- the least of nine runs. The last one is two machines with peers beside their sessions: a turn of one is all its calls, with a
 -- datagram that comes and one that goes.
 local ffi = require "ffi"
 local fazgrond = require "fazgrond"

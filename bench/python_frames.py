@@ -1,14 +1,14 @@
 #!/usr/bin/python3
-"""What a frame costs through Python: bench/python_frames.py, after `make -C c` and python/build
+"""What a frame costs through Python: bench/python_frames.py, after `make` and bindings/python/build
 
-The first five lines of `make -C c bench` (bench/c_frames.c), by the classes: a frame is all calls and requests of a turn, each
-line the least of five runs. `make -C c out/c_frames && c/out/c_frames 0` measures the same in C.
+The first five lines of `make bench` (bench/c_frames.c), by the classes: a frame is all calls and requests of a turn, each
+line the least of five runs. `make out/c_frames && out/c_frames 0` measures the same in C.
 """
 import sys
 import time
 from pathlib import Path
 
-sys.path.insert(0, str(Path(__file__).resolve().parent.parent / "python/out/package"))
+sys.path.insert(0, str(Path(__file__).resolve().parent.parent / "out/python/package"))
 from fazgrond import Match, Peer, Session, Settings  # noqa: E402
 
 FRAMES, RUNS = 20000, 5

@@ -1,6 +1,6 @@
 /* Presses the buttons of faz-retro's bot on RetroArch's network pad: retro_pads PORT SEED PLAYER FRAMES, PLAYER from 0 on. */
 #define _POSIX_C_SOURCE 200809L
-#include "../c/retro/pads.h"
+#include "../programs/retro/pads.h"
 
 #include <arpa/inet.h>
 #include <stdlib.h>

@@ -2,9 +2,9 @@
  * are seen. At its end it writes figures to the file SHIM_OUT, as `faz-retro --figures` does. A turn is all that lies between two
  * pauses of more than PAUSE microseconds without a call. Its processor time is that of the calls alone. */
 #define _GNU_SOURCE
-#include "../c/retro/figures.h"
+#include "../programs/retro/figures.h"
 
-#include "../c/duel/clock.h"
+#include "../programs/common/clock.h"
 
 #include <dlfcn.h>
 #include <inttypes.h>

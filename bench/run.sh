@@ -7,7 +7,7 @@
 #
 # Measures which guesses are worth making, in some two minutes; with ROLLDUEL it plays a part of each match through it too:
 #     bench/run.sh --choices [ROLLDUEL]
-# The same by parts of a word, in some five minutes; with the program of c/trials it compares counts:
+# The same by parts of a word, in some five minutes; with the program of tests/c/trials it compares counts:
 #     bench/run.sh --choices --parts [TRIALS]
 #
 # Measures what of the library needs threads by test_threads, both tables or one of them (`bench/threads.py`):

@@ -4,11 +4,11 @@
  * the two players do: `hold` a button for a second, `play` as the duel's bots, or `brawl`, four players whose words are new in each
  * frame. PID is the broker's. Prints one row of bench/watch's table. */
 #define _GNU_SOURCE
-#include "../c/duel/bot.h"
-#include "../c/duel/clock.h"
-#include "../c/watch/broker.h"
-#include "../c/watch/cast.h"
-#include "../c/watch/duel_game.h"
+#include "../programs/common/bot.h"
+#include "../programs/common/clock.h"
+#include "../lib/watch/broker.h"
+#include "faz_cast.h"
+#include "../programs/duel/duel_game.h"
 
 #include <inttypes.h>
 #include <stdatomic.h>

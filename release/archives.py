@@ -1,4 +1,4 @@
-"""The archives in release/: for release/check, release/verify and c/abi/compare."""
+"""The archives in release/: for release/check, release/verify and build/abi/compare."""
 import io
 import re
 import tarfile

@@ -1,4 +1,4 @@
-"""The lines in which the kit says that a crate is proved, kept by all that such a proof reads: for tests/proofs and c/dist.
+"""The lines in which the kit says that a crate is proved, kept by all that such a proof reads: for tests/proofs and build/dist.
 
 `python3 tests/verdicts.py CRATE..` prints those of these crates and all below them. Where an earlier run of the kit's own took the
 proof, its line isn't here, and that is said in its place.

@@ -19,7 +19,7 @@ CARRIES, LASTS = 1, 2  # what a machine can, in its hellos
 LEAVES, DESYNC, ERROR, OWN_REASONS = 1, 2, 3, range(16, 256)  # why it says bye
 BLOCK = 64  # of SHA-256, in bytes
 # How long the table is that who comes into a match asks for.
-TABLE_BYTES = int(re.search(r"FAZ_TABLE_BYTES = (\d+)", (Path(__file__).parent.parent / "c/rejoin/rejoin.h").read_text())[1])
+TABLE_BYTES = int(re.search(r"FAZ_TABLE_BYTES = (\d+)", (Path(__file__).parent.parent / "include/faz_rejoin.h").read_text())[1])
 PIECE_LIMIT, ASK_LIMIT = 1024, 16
 DATAGRAM_LIMIT, PLACES = 1200, 8
 

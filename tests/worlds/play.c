@@ -10,7 +10,7 @@
 #include <stdlib.h>
 #include <string.h>
 
-#include "../../c/sha256.h"
+#include "../../lib/sha256.h"
 
 enum { MACHINES = FAZGROND_MACHINES, PLAYERS = FAZGROND_PLAYERS, BYES = 3, WORDS = 67, COPIES = WORDS - 3, REQUESTS = 16, MARKS = 1024 };
 

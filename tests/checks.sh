@@ -1,0 +1,134 @@
+# For tests: sourced, it has a folder $work, counts of checks, and, at the top, machines that play the duel.
+work=$(mktemp -d) || exit 2
+pids=
+trap 'kill $pids 2> /dev/null; rm -rf -- "$work"' EXIT
+passed=0
+failed=0
+strict="-Wall -Wextra -Wpedantic -Werror -Iinclude"
+clean="-g -O1 -fsanitize=address,undefined -fno-sanitize-recover=all"
+
+# A check: its name, and a command. Machines play by the clock here, and on a busy machine one may stand still for longer than the others
+# wait: what fails is tried once more, and that is said. $try is 2 then: what a broker keeps of the first try has other names.
+check() {
+    what=$1
+    shift
+    earlier=$pids
+    try=1
+    begin_anew
+    if "$@" > "$work/said" 2>&1 || once_more "$@"; then
+        passed=$((passed + 1))
+    else
+        failed=$((failed + 1))
+        echo "failed: $what"
+        show_said
+    fi
+}
+
+# Tries it again, without the machines that the first try left.
+once_more() {
+    echo "once more: $what"
+    show_said
+    left=${pids#"$earlier"}
+    pids=$earlier
+    [ -z "$left" ] || { kill $left; kill -CONT $left; wait $left; } 2> /dev/null
+    try=2
+    begin_anew
+    "$@" > "$work/said" 2>&1
+}
+
+# Before each try.
+begin_anew() {
+    :
+}
+
+# What a check said that failed.
+show_said() {
+    cat "$work/said"
+}
+
+# Whether there is a program; else what is skipped.
+has() {
+    command -v "$1" > "$work/where" && return
+    echo "skipped: $2 (no $1)"
+    return 1
+}
+
+# A machine of a match, by its name, in the background: its words are after it. It ends after a minute at the latest, or
+# after so many seconds as $patience has.
+machine() {
+    machine_of duel "$@"
+}
+
+# The same, of a program in the folder.
+machine_of() {
+    program=$1
+    name=$2
+    shift 2
+    forget $name
+    timeout "${patience:-60}" "$work/$program" --headless --speed 10 "$@" > "$work/$name.out" 2> "$work/$name.err" &
+    pids="$pids $!"
+    eval "pid_$name=$!"
+}
+
+# Whether programs in the folder say how they are begun, if that is asked for.
+helps() {
+    for program; do
+        timeout 10 "$work/$program" --help > "$work/help" 2> "$work/help.err" && grep -q "^$program .*  " "$work/help" \
+            && [ ! -s "$work/help.err" ] || return 1
+    done
+}
+
+# What a machine of this name said in another check isn't found any more.
+forget() {
+    : > "$work/$1.out"
+    : > "$work/$1.err"
+}
+
+# Waits until machines have ended, with 0; else shows what they said.
+ended() {
+    for name; do
+        eval "wait \$pid_$name" && continue
+        echo "machine $name ended with $?:"
+        cat "$work/$name.out" "$work/$name.err"
+        return 1
+    done
+}
+
+# Whether a machine of over_udp, to which no other comes, ends with a word and doesn't wait. Its command is told without ME and the rest.
+ends_alone() {
+    port=$((34000 + $$ % 1000))
+    timeout 60 "$@" 0 $port 127.0.0.1 9 > "$work/alone.out" 2> "$work/alone.err"
+    [ $? = 1 ] && [ ! -s "$work/alone.out" ] && grep "hasn't come so far\|isn't in this match" "$work/alone.err"
+}
+
+# Waits until machines are in the match, or watch it.
+began() {
+    for name; do
+        at=0
+        until grep -q "the match begins" "$work/$name.err"; do
+            at=$((at + 1))
+            if [ $at -ge 300 ]; then
+                echo "machine $name didn't begin:"
+                cat "$work/$name.out" "$work/$name.err"
+                return 1
+            fi
+            sleep 0.1
+        done
+    done
+}
+
+# Whether machines printed the same, and something.
+agree() {
+    [ -s "$work/$1.out" ] || return 1
+    for name; do
+        diff "$work/$1.out" "$work/$name.out" || return 1
+    done
+}
+
+# If the compiler has no sanitizers, none are used.
+without_sanitizers() {
+    echo 'int main(void) { return 0; }' > "$work/empty.c"
+    cc $clean "$work/empty.c" -o "$work/empty" 2> "$work/said" && "$work/empty" && return
+    echo "skipped: sanitizers (cc has none)"
+    clean=-O1
+}
