@@ -2,7 +2,7 @@
 """What a frame costs through Python: bench/python_frames.py, after `make` and bindings/python/build
 
 The first five lines of `make bench` (bench/c_frames.c), by the classes: a frame is all calls and requests of a turn, each
-line the least of five runs. `make out/c_frames && out/c_frames 0` measures the same in C.
+line the least of five runs. `make c_frames && out/bench/c_frames 0` measures the same in C.
 """
 import sys
 import time

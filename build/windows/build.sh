@@ -1,22 +1,17 @@
 #!/bin/sh
-# The libraries for Windows on x86-64, from the machine code of the static one for Linux: build/windows/build.sh [TOOLS [FOLDER]]
+# The libraries for Windows on x86-64, from the machine code of the static one for Linux: build/windows/build.sh TOOLS LIBRARY FOLDER
 #
-# TOOLS is `mingw` (x86_64-w64-mingw32-gcc) or `clang` (clang, ld.lld, llvm-dlltool and llvm-ar, with no file of Windows' own), else
-# whichever is there. The folder, else out/windows, gets fazgrond.dll, its import library fazgrond.dll.a, fazgrond.def, and the static
-# library libfazgrond.a. FAZGROND_C is the library for Linux, as in build/Makefile.
+# TOOLS is `mingw` (x86_64-w64-mingw32-gcc) or `clang` (clang, ld.lld, llvm-dlltool and llvm-ar, with no file of Windows' own). LIBRARY is
+# the one for Linux. The folder gets fazgrond.dll, its import library libfazgrond.dll.a, fazgrond.def, and the static library libfazgrond.a.
 #
 # The library is linked flat: all its jumps, tables and constants are relative, so its bytes run at any place. The assembler
 # takes these bytes in, puts jumps behind them to what they call, and names what they define.
 set -eu
 here=$(cd "$(dirname -- "$0")" && pwd)
-library=$(realpath -- "${FAZGROND_C:-$here/../../crates/fazgrond_c/out/libfazgrond_c.a}")
-tools=${1:-}
-if [ -z "$tools" ]; then
-    if command -v x86_64-w64-mingw32-gcc > /dev/null; then tools=mingw; else tools=clang; fi
-fi
-out=${2:-$here/../../out/windows}
-mkdir -p -- "$out"
-out=$(cd -- "$out" && pwd)
+tools=$1
+library=$(realpath -- "$2")
+mkdir -p -- "$3"
+out=$(cd -- "$3" && pwd)
 work=$(mktemp -d)
 trap 'rm -rf -- "$work"' EXIT
 trap 'exit 1' HUP INT TERM
@@ -67,6 +62,6 @@ for source in exports heap start; do
         -I "$here/../../include" -c "$here/$source.c" -o "$source.o"
 done
 "$@" -shared -nostdlib -s -Wl,-e,DllMainCRTStartup -Wl,--dynamicbase,--nxcompat,--high-entropy-va,--no-insert-timestamp \
-    -Wl,--out-implib,fazgrond.dll.a -o fazgrond.dll exports.o heap.o start.o image.o fazgrond.def "$kernel32"
+    -Wl,--out-implib,libfazgrond.dll.a -o fazgrond.dll exports.o heap.o start.o image.o fazgrond.def "$kernel32"
 "$ar" rcsD libfazgrond.a exports.o heap.o image.o
-mv fazgrond.dll fazgrond.dll.a fazgrond.def libfazgrond.a "$out"
+mv fazgrond.dll libfazgrond.dll.a fazgrond.def libfazgrond.a "$out"

@@ -1,7 +1,7 @@
 //! What a frame costs through Rust: cargo run --release --example frames, after `make libraries`
 //!
 //! The first five lines of `make bench` (bench/c_frames.c), by the types: a frame is all calls and requests of a turn, each
-//! line the least of nine runs. `make out/c_frames && out/c_frames 0` measures the same in C.
+//! line the least of nine runs. `make c_frames && out/bench/c_frames 0` measures the same in C.
 use fazgrond::{Datagram, Error, Game, Match, Peer, Row, Session, Settings};
 use std::time::{Duration, Instant};
 

@@ -4,7 +4,10 @@
 #ifndef FAZ_ICE_H
 #define FAZ_ICE_H
 
+/* What is compiled as a library for other languages shows these calls, and no other. */
+#pragma GCC visibility push(default)
 #include "faz_line.h"
+#pragma GCC visibility pop
 
 typedef struct ice ice;
 
@@ -21,29 +24,29 @@ typedef struct ice_settings {
 enum { ICE_TEXT = 256, ICE_TEXTS = 48 };
 
 /* Begins to look for a way; null if there is no memory or no socket, or nothing to hide behind for `relay_only`. */
-ice *ice_open(const ice_settings *settings);
+ice *faz_line_ice_open(const ice_settings *settings);
 
 /* Sends and takes what is due, and calls `came` for each datagram. */
-void ice_turn(ice *self);
+void faz_line_ice_turn(ice *self);
 
 /* The text at this place, from 0, of those to tell the other machine's way; null if there is none yet. They stay. */
-const char *ice_text(const ice *self, size_t at);
+const char *faz_line_ice_text(const ice *self, size_t at);
 
 /* Takes a text that the other machine's way tells. It may come again, and in any order. */
-void ice_told(ice *self, const char *text);
+void faz_line_ice_told(ice *self, const char *text);
 
-ice_state ice_look(const ice *self);
-faz_line_way ice_way(ice *self);
-bool ice_send(ice *self, const uint8_t *bytes, size_t length);
+ice_state faz_line_ice_look(const ice *self);
+faz_line_way faz_line_ice_way(ice *self);
+bool faz_line_ice_send(ice *self, const uint8_t *bytes, size_t length);
 
 /* The way is good as it is: lets go of what was held for others, as places on relays. */
-void ice_settle(ice *self);
+void faz_line_ice_settle(ice *self);
 
 /* Closes it, and whatever servers hold for it. It is called again, each turn, until it is true: then the way is gone. */
-bool ice_close(ice *self);
+bool faz_line_ice_close(ice *self);
 
 /* Lets go of it at once, whatever servers still hold. */
-void ice_drop(ice *self);
+void faz_line_ice_drop(ice *self);
 
 /* Waits for a millisecond. Lobbies call this and the next one, which are therefore seen outside of the archive of lines. */
 void faz_ice_wait(void);

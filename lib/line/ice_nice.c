@@ -1,4 +1,4 @@
-/* Ways by ICE, with libnice. Each has a main context of its own, which ice_turn lets run as far as it can without waiting. */
+/* Ways by ICE, with libnice. Each has a main context of its own, which faz_line_ice_turn lets run as far as it can without waiting. */
 #include "ice.h"
 
 #include <gio/gio.h>
@@ -108,7 +108,7 @@ static void tell_credentials(ice *self) {
     g_free(password);
 }
 
-ice *ice_open(const ice_settings *settings) {
+ice *faz_line_ice_open(const ice_settings *settings) {
     ice *self = calloc(1, sizeof *self);
     if (self == NULL)
         return NULL;
@@ -141,13 +141,13 @@ static void run(ice *self) {
     }
 }
 
-void ice_turn(ice *self) {
+void faz_line_ice_turn(ice *self) {
     run(self);
     if (self->turns < RELAYS_IN && ++self->turns == RELAYS_IN && self->settings.line->stun != NULL)
         set_relays(self);
 }
 
-const char *ice_text(const ice *self, size_t at) {
+const char *faz_line_ice_text(const ice *self, size_t at) {
     return at < self->texts ? self->text[at] : NULL;
 }
 
@@ -161,7 +161,7 @@ static void add_candidate(ice *self, const char *text) {
     g_slist_free_full(list, (GDestroyNotify)nice_candidate_free);
 }
 
-void ice_told(ice *self, const char *text) {
+void faz_line_ice_told(ice *self, const char *text) {
     char user[ICE_TEXT], password[ICE_TEXT];
     if (strlen(text) >= ICE_TEXT)
         return;
@@ -173,7 +173,7 @@ void ice_told(ice *self, const char *text) {
         nice_agent_peer_candidate_gathering_done(self->agent, self->stream);
 }
 
-ice_state ice_look(const ice *self) {
+ice_state faz_line_ice_look(const ice *self) {
     return self->state;
 }
 
@@ -183,7 +183,7 @@ static bool are_neighbours(const NiceAddress *one, const NiceAddress *other) {
         && memcmp(&one->s.ip6.sin6_addr, &other->s.ip6.sin6_addr, NETWORK) == 0;
 }
 
-faz_line_way ice_way(ice *self) {
+faz_line_way faz_line_ice_way(ice *self) {
     NiceCandidate *here = NULL, *there = NULL;
     if (!nice_agent_get_selected_pair(self->agent, self->stream, 1, &here, &there))
         return FAZ_LINE_NO_WAY;
@@ -192,11 +192,11 @@ faz_line_way ice_way(ice *self) {
     return nice_address_is_private(&there->addr) || are_neighbours(&here->addr, &there->addr) ? FAZ_LINE_LAN : FAZ_LINE_DIRECT;
 }
 
-bool ice_send(ice *self, const uint8_t *bytes, size_t length) {
+bool faz_line_ice_send(ice *self, const uint8_t *bytes, size_t length) {
     return nice_agent_send(self->agent, self->stream, 1, (guint)length, (const gchar *)bytes) == (gint)length;
 }
 
-void ice_settle(ice *self) {
+void faz_line_ice_settle(ice *self) {
     nice_agent_forget_relays(self->agent, self->stream, 1);
 }
 
@@ -210,7 +210,7 @@ static void begin_to_close(ice *self) {
     g_main_context_pop_thread_default(self->context);
 }
 
-void ice_drop(ice *self) {
+void faz_line_ice_drop(ice *self) {
     if (!self->is_closing)
         begin_to_close(self);
     run(self);
@@ -220,13 +220,13 @@ void ice_drop(ice *self) {
     free(self);
 }
 
-bool ice_close(ice *self) {
+bool faz_line_ice_close(ice *self) {
     if (!self->is_closing)
         begin_to_close(self);
     run(self);
     if (!self->is_closed)
         return false;
-    ice_drop(self);
+    faz_line_ice_drop(self);
     return true;
 }
 

@@ -60,7 +60,7 @@ struct faz_line {
 bool faz_line_draw(faz_line_keys *keys) {
     if (sodium_init() < 0)
         return false;
-    seal_draw(keys->open, keys->secret);
+    faz_line_seal_draw(keys->open, keys->secret);
     return true;
 }
 
@@ -99,7 +99,7 @@ static void keep(faz_line *self, const uint8_t *bytes, size_t length) {
 static void came(void *of, ice *from, const uint8_t *bytes, size_t length) {
     faz_line *self = of;
     uint8_t inside[FAZGROND_DATAGRAM];
-    switch (length > SEALED ? SEAL_FORGED : seal_take(&self->seal, inside, bytes, length)) {
+    switch (length > SEALED ? SEAL_FORGED : faz_line_seal_take(&self->seal, inside, bytes, length)) {
     case SEAL_FORGED: self->counts.forged++; return;
     case SEAL_AGAIN: self->counts.again++; return;
     case SEAL_OK: break;
@@ -127,11 +127,11 @@ bool faz_line_receive(faz_line *self, uint8_t *out, size_t room, size_t *length)
 /* ---- what goes */
 
 static bool send_by(way *by, const uint8_t *bytes, size_t length) {
-    return by->ice != NULL && by->is_up && ice_send(by->ice, bytes, length);
+    return by->ice != NULL && by->is_up && faz_line_ice_send(by->ice, bytes, length);
 }
 
 static bool has_room(const faz_line *self, const way *by, size_t length) {
-    return by->is_up && (length <= SHORT || since(self, by->up_at) >= WRAPPED || ice_way(by->ice) != FAZ_LINE_RELAYED);
+    return by->is_up && (length <= SHORT || since(self, by->up_at) >= WRAPPED || faz_line_ice_way(by->ice) != FAZ_LINE_RELAYED);
 }
 
 /* By the newest way; until that is heard also by the one before: the other machine takes it once. */
@@ -141,7 +141,7 @@ bool faz_line_send(faz_line *self, const uint8_t *bytes, size_t length) {
     bool by_before = !self->newest.is_heard && has_room(self, &self->before, length);
     if (!is_own(self) || length == 0 || length > FAZGROND_DATAGRAM || !(by_newest || by_before))
         return false;
-    size_t size = seal_put(&self->seal, sealed, bytes, length);
+    size_t size = faz_line_seal_put(&self->seal, sealed, bytes, length);
     bool is_sent = by_newest && send_by(&self->newest, sealed, size);
     if (by_before && send_by(&self->before, sealed, size))
         is_sent = true;
@@ -159,7 +159,7 @@ static void keep_alive(faz_line *self, way *by) {
     if (!by->is_up || quiet < (by->is_heard ? KEPT_ALIVE : HANDED_OVER) || since(self, by->kept_at) < HANDED_OVER)
         return;
     by->kept_at = self->now;
-    if (send_by(by, sealed, seal_put(&self->seal, sealed, NULL, 0)) && by == &self->newest)
+    if (send_by(by, sealed, faz_line_seal_put(&self->seal, sealed, NULL, 0)) && by == &self->newest)
         self->sent_at = self->now;
 }
 
@@ -167,12 +167,12 @@ static void keep_alive(faz_line *self, way *by) {
 
 /* Closes a way, by and by. */
 static void retire(faz_line *self, way *old) {
-    if (old->ice != NULL && !ice_close(old->ice)) {
+    if (old->ice != NULL && !faz_line_ice_close(old->ice)) {
         size_t at = 0;
         while (at + 1 < CLOSING && self->closing[at] != NULL)
             at++;
         if (self->closing[at] != NULL)
-            ice_drop(self->closing[at]);
+            faz_line_ice_drop(self->closing[at]);
         self->closing[at] = old->ice;
     }
     memset(old, 0, sizeof *old);
@@ -182,7 +182,7 @@ static void retire(faz_line *self, way *old) {
 static bool close_more(faz_line *self) {
     bool is_over = true;
     for (size_t at = 0; at < CLOSING; at++) {
-        if (self->closing[at] != NULL && ice_close(self->closing[at]))
+        if (self->closing[at] != NULL && faz_line_ice_close(self->closing[at]))
             self->closing[at] = NULL;
         is_over = is_over && self->closing[at] == NULL;
     }
@@ -198,14 +198,14 @@ static bool begin(faz_line *self, uint32_t generation) {
     } else {
         retire(self, &self->newest);
     }
-    self->newest = (way){.ice = ice_open(&settings), .generation = generation, .begun = self->now};
+    self->newest = (way){.ice = faz_line_ice_open(&settings), .generation = generation, .begun = self->now};
     self->told_at = self->now;
     return self->newest.ice != NULL;
 }
 
 static void look_at(const faz_line *self, way *of) {
     bool was_up = of->is_up;
-    of->is_up = of->ice != NULL && ice_look(of->ice) == ICE_THERE;
+    of->is_up = of->ice != NULL && faz_line_ice_look(of->ice) == ICE_THERE;
     if (of->is_up && !was_up)
         of->up_at = self->now;
 }
@@ -258,8 +258,8 @@ static void tidy(faz_line *self) {
     if (newest->is_heard && self->before.ice != NULL && since(self, newest->heard_at) >= LATE)
         retire(self, &self->before);
     if (newest->is_heard && newest->is_up && !newest->is_settled && since(self, newest->heard_at) >= SETTLED
-        && ice_way(newest->ice) != FAZ_LINE_RELAYED) {
-        ice_settle(newest->ice);
+        && faz_line_ice_way(newest->ice) != FAZ_LINE_RELAYED) {
+        faz_line_ice_settle(newest->ice);
         newest->is_settled = true;
     }
     close_more(self);
@@ -268,7 +268,7 @@ static void tidy(faz_line *self) {
 void faz_line_turn(faz_line *self, uint32_t now) {
     self->now = now;
     if (!is_own(self)) {
-        seal_close(&self->seal);
+        faz_line_seal_close(&self->seal);
         return;
     }
     if (!self->has_turned) {
@@ -279,7 +279,7 @@ void faz_line_turn(faz_line *self, uint32_t now) {
         self->newest.begun = self->heard_at = now;
     for (way *each = &self->newest; each != NULL; each = each == &self->newest ? &self->before : NULL)
         if (each->ice != NULL)
-            ice_turn(each->ice);
+            faz_line_ice_turn(each->ice);
     look_at(self, &self->newest);
     look_at(self, &self->before);
     keep_alive(self, &self->newest);
@@ -311,7 +311,7 @@ bool faz_line_signal(faz_line *self, uint8_t *out, size_t room, size_t *length) 
         newest->told = 0;
         self->told_at = self->now;
     }
-    for (const char *text; (text = ice_text(newest->ice, newest->told)) != NULL; newest->told++) {
+    for (const char *text; (text = faz_line_ice_text(newest->ice, newest->told)) != NULL; newest->told++) {
         size_t more = strlen(text) + 1;
         if (size + more > sizeof inside)
             break;
@@ -319,7 +319,7 @@ bool faz_line_signal(faz_line *self, uint8_t *out, size_t room, size_t *length) 
         size += more;
     }
     put_generation(inside, newest->generation);
-    *length = size == HEAD ? 0 : seal_note(&self->seal, out, inside, size);
+    *length = size == HEAD ? 0 : faz_line_seal_note(&self->seal, out, inside, size);
     return size > HEAD;
 }
 
@@ -334,7 +334,7 @@ bool faz_line_signalled(faz_line *self, const uint8_t *bytes, size_t length) {
     uint8_t inside[FAZ_LINE_SIGNAL - NOTE_OVERHEAD];
     if (!is_own(self))
         return false;
-    if (length > FAZ_LINE_SIGNAL || length < NOTE_OVERHEAD + HEAD + 1 || !seal_read(&self->seal, inside, bytes, length)) {
+    if (length > FAZ_LINE_SIGNAL || length < NOTE_OVERHEAD + HEAD + 1 || !faz_line_seal_read(&self->seal, inside, bytes, length)) {
         self->counts.forged++;
         return false;
     }
@@ -343,7 +343,7 @@ bool faz_line_signalled(faz_line *self, const uint8_t *bytes, size_t length) {
     if (to == NULL || to->ice == NULL || inside[size - 1] != 0)
         return true;
     for (size_t at = HEAD; at < size; at += strlen((const char *)inside + at) + 1)
-        ice_told(to->ice, (const char *)inside + at);
+        faz_line_ice_told(to->ice, (const char *)inside + at);
     return true;
 }
 
@@ -354,7 +354,7 @@ void faz_line_look(const faz_line *self, faz_line_state *state) {
     *state = self->counts;
     state->silence = since(self, self->heard_at);
     state->generation = self->newest.generation;
-    state->way = by->is_up && is_own(self) ? ice_way(by->ice) : FAZ_LINE_NO_WAY;
+    state->way = by->is_up && is_own(self) ? faz_line_ice_way(by->ice) : FAZ_LINE_NO_WAY;
     state->stage = self->was_up ? (state->silence < SILENT ? FAZ_LINE_UP : FAZ_LINE_SILENT)
                  : self->was_blocked ? FAZ_LINE_BLOCKED : FAZ_LINE_LOOKING;
 }
@@ -413,7 +413,7 @@ static const char *keyed(faz_line *self, const faz_line_settings *settings) {
     if (sodium_is_zero(settings->keys->secret, FAZ_LINE_KEY))
         return "the keys were not drawn, or are another line's";
     bool leads = settings->me < settings->other;
-    bool is_open = seal_open(&self->seal, leads, settings->keys->open, settings->keys->secret, settings->their);
+    bool is_open = faz_line_seal_open(&self->seal, leads, settings->keys->open, settings->keys->secret, settings->their);
     sodium_memzero(settings->keys, sizeof *settings->keys);
     return is_open ? NULL : "the other machine's key is none";
 }
@@ -446,7 +446,7 @@ static void close_ways(faz_line *self) {
         faz_ice_wait();
     for (size_t at = 0; at < CLOSING; at++)
         if (self->closing[at] != NULL)
-            ice_drop(self->closing[at]);
+            faz_line_ice_drop(self->closing[at]);
 }
 
 void faz_line_close(faz_line *self) {
@@ -454,6 +454,6 @@ void faz_line_close(faz_line *self) {
         return;
     if (is_own(self))
         close_ways(self);
-    seal_close(&self->seal);
+    faz_line_seal_close(&self->seal);
     free(self);
 }

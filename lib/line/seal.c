@@ -5,7 +5,7 @@
 
 static const uint64_t COUNTERS = UINT64_C(1) << 56;
 
-void seal_draw(uint8_t open[SEAL_KEY], uint8_t secret[SEAL_KEY]) {
+void faz_line_seal_draw(uint8_t open[SEAL_KEY], uint8_t secret[SEAL_KEY]) {
     crypto_kx_keypair(open, secret);
 }
 
@@ -25,7 +25,8 @@ static uint64_t number_of(const uint8_t bytes[8]) {
     return number;
 }
 
-bool seal_open(seal *self, bool leads, const uint8_t open[SEAL_KEY], const uint8_t secret[SEAL_KEY], const uint8_t other[SEAL_KEY]) {
+bool faz_line_seal_open(seal *self, bool leads, const uint8_t open[SEAL_KEY], const uint8_t secret[SEAL_KEY],
+                        const uint8_t other[SEAL_KEY]) {
     memset(self, 0, sizeof *self);
     int status = leads ? crypto_kx_server_session_keys(self->theirs, self->ours, open, secret, other)
                        : crypto_kx_client_session_keys(self->theirs, self->ours, open, secret, other);
@@ -39,7 +40,7 @@ bool seal_open(seal *self, bool leads, const uint8_t open[SEAL_KEY], const uint8
     return true;
 }
 
-void seal_close(seal *self) {
+void faz_line_seal_close(seal *self) {
     sodium_memzero(self, sizeof *self);
 }
 
@@ -49,7 +50,7 @@ static void nonce_of(uint8_t nonce[24], const uint8_t front[SEAL_FRONT]) {
     memcpy(nonce + 16, front, SEAL_FRONT);
 }
 
-size_t seal_put(seal *self, uint8_t *out, const uint8_t *bytes, size_t length) {
+size_t faz_line_seal_put(seal *self, uint8_t *out, const uint8_t *bytes, size_t length) {
     if (self->sent >= COUNTERS)
         return 0;
     uint8_t nonce[24], front[SEAL_FRONT] = {SEAL_FIRST};
@@ -62,7 +63,7 @@ size_t seal_put(seal *self, uint8_t *out, const uint8_t *bytes, size_t length) {
     return length + SEAL_OVERHEAD;
 }
 
-seal_answer seal_take(seal *self, uint8_t *out, const uint8_t *bytes, size_t length) {
+seal_answer faz_line_seal_take(seal *self, uint8_t *out, const uint8_t *bytes, size_t length) {
     if (length < SEAL_OVERHEAD || bytes[0] != SEAL_FIRST)
         return SEAL_FORGED;
     uint8_t nonce[24];
@@ -77,13 +78,13 @@ seal_answer seal_take(seal *self, uint8_t *out, const uint8_t *bytes, size_t len
     return SEAL_OK;
 }
 
-size_t seal_note(const seal *self, uint8_t *out, const uint8_t *bytes, size_t length) {
+size_t faz_line_seal_note(const seal *self, uint8_t *out, const uint8_t *bytes, size_t length) {
     randombytes_buf(out, NOTE_NONCE);
     crypto_aead_xchacha20poly1305_ietf_encrypt(out + NOTE_NONCE, NULL, bytes, length, NULL, 0, NULL, out, self->our_notes);
     return length + NOTE_OVERHEAD;
 }
 
-bool seal_read(const seal *self, uint8_t *out, const uint8_t *bytes, size_t length) {
+bool faz_line_seal_read(const seal *self, uint8_t *out, const uint8_t *bytes, size_t length) {
     return length >= NOTE_OVERHEAD
         && crypto_aead_xchacha20poly1305_ietf_decrypt(out, NULL, NULL, bytes + NOTE_NONCE, length - NOTE_NONCE, NULL, 0, bytes,
                                                       self->their_notes) == 0;

@@ -21,21 +21,22 @@ typedef struct seal {
 } seal;
 
 /* Draws a pair of keys: the open one is for the other machine, the secret one for nobody. */
-void seal_draw(uint8_t open[SEAL_KEY], uint8_t secret[SEAL_KEY]);
+void faz_line_seal_draw(uint8_t open[SEAL_KEY], uint8_t secret[SEAL_KEY]);
 
 /* Makes the keys. One of the two leads. False: the other's is no key. */
-bool seal_open(seal *self, bool leads, const uint8_t open[SEAL_KEY], const uint8_t secret[SEAL_KEY], const uint8_t other[SEAL_KEY]);
-void seal_close(seal *self);
+bool faz_line_seal_open(seal *self, bool leads, const uint8_t open[SEAL_KEY], const uint8_t secret[SEAL_KEY],
+                        const uint8_t other[SEAL_KEY]);
+void faz_line_seal_close(seal *self);
 
 /* Seals a datagram into `out`, which has room for SEAL_OVERHEAD bytes more than it is long, and answers how long that is; 0 if all
  * counters were used. */
-size_t seal_put(seal *self, uint8_t *out, const uint8_t *bytes, size_t length);
+size_t faz_line_seal_put(seal *self, uint8_t *out, const uint8_t *bytes, size_t length);
 
 /* Opens one into `out`, which has room for SEAL_OVERHEAD bytes less. SEAL_AGAIN: its counter came before, or is too old.
  * SEAL_FORGED: nobody sealed it who has the key. Of both nothing is left. */
-seal_answer seal_take(seal *self, uint8_t *out, const uint8_t *bytes, size_t length);
+seal_answer faz_line_seal_take(seal *self, uint8_t *out, const uint8_t *bytes, size_t length);
 
 /* The same of a note that somebody else carries, who may lose it, or bring it again and later. */
-size_t seal_note(const seal *self, uint8_t *out, const uint8_t *bytes, size_t length);
-bool seal_read(const seal *self, uint8_t *out, const uint8_t *bytes, size_t length);
+size_t faz_line_seal_note(const seal *self, uint8_t *out, const uint8_t *bytes, size_t length);
+bool faz_line_seal_read(const seal *self, uint8_t *out, const uint8_t *bytes, size_t length);
 #endif

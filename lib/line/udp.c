@@ -74,7 +74,7 @@ static void tell_address(void *of, const struct sockaddr_in *address) {
         snprintf(self->text[self->texts++], ICE_TEXT, "a %s %d", number, ntohs(own.sin_port));
 }
 
-ice *ice_open(const ice_settings *settings) {
+ice *faz_line_ice_open(const ice_settings *settings) {
     struct sockaddr_in any = {.sin_family = AF_INET};
     char word[2 * WORD + 1];
     ice *self = settings->line->relay_only ? NULL : calloc(1, sizeof *self);
@@ -84,7 +84,7 @@ ice *ice_open(const ice_settings *settings) {
     self->socket = socket(AF_INET, SOCK_DGRAM, 0);
     if (self->socket < 0 || fcntl(self->socket, F_SETFL, O_NONBLOCK) != 0
         || bind(self->socket, (struct sockaddr *)&any, sizeof any) != 0) {
-        ice_drop(self);
+        faz_line_ice_drop(self);
         return NULL;
     }
     setsockopt(self->socket, SOL_SOCKET, SO_RCVBUF, &(int){ROOM}, sizeof(int));
@@ -120,7 +120,7 @@ static void ask_all(ice *self) {
         probe(self, &self->asked[at], ASKS);
 }
 
-void ice_turn(ice *self) {
+void faz_line_ice_turn(ice *self) {
     uint8_t bytes[MOST];
     struct sockaddr_in from;
     ask_all(self);
@@ -136,7 +136,7 @@ void ice_turn(ice *self) {
     }
 }
 
-const char *ice_text(const ice *self, size_t at) {
+const char *faz_line_ice_text(const ice *self, size_t at) {
     return at < self->texts ? self->text[at] : NULL;
 }
 
@@ -150,7 +150,7 @@ static void add(ice *self, const char *number, int port) {
     self->asked[self->addresses++] = to;
 }
 
-void ice_told(ice *self, const char *text) {
+void faz_line_ice_told(ice *self, const char *text) {
     char word[64];
     int port;
     if (sscanf(text, "w %63s", word) == 1)
@@ -159,30 +159,30 @@ void ice_told(ice *self, const char *text) {
         add(self, word, port);
 }
 
-ice_state ice_look(const ice *self) {
+ice_state faz_line_ice_look(const ice *self) {
     return self->is_there ? ICE_THERE : ICE_LOOKING;
 }
 
-faz_line_way ice_way(ice *self) {
+faz_line_way faz_line_ice_way(ice *self) {
     return self->is_there ? FAZ_LINE_LAN : FAZ_LINE_NO_WAY;
 }
 
-bool ice_send(ice *self, const uint8_t *bytes, size_t length) {
+bool faz_line_ice_send(ice *self, const uint8_t *bytes, size_t length) {
     return sendto(self->socket, bytes, length, 0, (const struct sockaddr *)&self->to, sizeof self->to) == (ssize_t)length;
 }
 
-void ice_settle(ice *self) {
+void faz_line_ice_settle(ice *self) {
     (void)self;
 }
 
-void ice_drop(ice *self) {
+void faz_line_ice_drop(ice *self) {
     if (self->socket >= 0)
         close(self->socket);
     free(self);
 }
 
-bool ice_close(ice *self) {
-    ice_drop(self);
+bool faz_line_ice_close(ice *self) {
+    faz_line_ice_drop(self);
     return true;
 }
 

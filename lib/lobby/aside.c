@@ -24,7 +24,7 @@ static void run(gpointer job, gpointer nothing) {
 }
 
 /* A pool of its own, of threads that all pools share, which goes once it has nothing to do. */
-aside *aside_begin(void (*work)(void *of), void (*drop)(void *of), void *of) {
+aside *faz_aside_begin(void (*work)(void *of), void (*drop)(void *of), void *of) {
     aside *self = malloc(sizeof *self);
     GThreadPool *pool = self != NULL ? g_thread_pool_new(run, NULL, 1, FALSE, NULL) : NULL;
     if (pool == NULL) {
@@ -40,15 +40,15 @@ aside *aside_begin(void (*work)(void *of), void (*drop)(void *of), void *of) {
     return self;
 }
 
-bool aside_is_over(const aside *self) {
+bool faz_aside_is_over(const aside *self) {
     return atomic_load(&self->stage) == DONE;
 }
 
-void aside_take(aside *self) {
+void faz_aside_take(aside *self) {
     free(self);
 }
 
-void aside_leave(aside *self) {
+void faz_aside_leave(aside *self) {
     if (self != NULL && atomic_exchange(&self->stage, LEFT) == DONE) {
         self->drop(self->of);
         free(self);

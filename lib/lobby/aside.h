@@ -6,14 +6,14 @@
 
 typedef struct aside aside;
 
-/* Has `work` done with `of`, which is the thread's until aside_is_over. Null if there is no memory. */
-aside *aside_begin(void (*work)(void *of), void (*drop)(void *of), void *of);
+/* Has `work` done with `of`, which is the thread's until faz_aside_is_over. Null if there is no memory. */
+aside *faz_aside_begin(void (*work)(void *of), void (*drop)(void *of), void *of);
 
-bool aside_is_over(const aside *self);
+bool faz_aside_is_over(const aside *self);
 
 /* Of work that is over: `of` is the caller's again. */
-void aside_take(aside *self);
+void faz_aside_take(aside *self);
 
 /* Nobody waits for it any more: `of` is dropped, now or once the work is over. Null is none. */
-void aside_leave(aside *self);
+void faz_aside_leave(aside *self);
 #endif

@@ -149,7 +149,7 @@ static aside *finish_aside(natsConnection *connection) {
     if (last == NULL)
         return NULL;
     last->connection = connection;
-    aside *job = aside_begin(finish, drop, last);
+    aside *job = faz_aside_begin(finish, drop, last);
     if (job == NULL)
         drop(last);
     return job;
@@ -168,10 +168,10 @@ static bool take_server(task *to, const char *server) {
     pass by;
     snprintf(to->servers + length, TEXT - length, "%s%.*s%s", length > 0 ? "," : "", (int)(host - server), server,
              has_pass ? end + 1 : host);
-    if (has_pass && !pass_read(&by, host, (size_t)(end - host)))
+    if (has_pass && !faz_pass_read(&by, host, (size_t)(end - host)))
         return false;
     if (has_pass && to->token[0] == 0)
-        pass_token(&by, &to->user, to->token);
+        faz_pass_token(&by, &to->user, to->token);
     return true;
 }
 
@@ -183,7 +183,7 @@ static bool take_servers(task *to, const char *servers) {
     return are_good;
 }
 
-broker *broker_open(const char *servers, const char *trusted, const char **why) {
+broker *faz_lobby_broker_open(const char *servers, const char *trusted, const char **why) {
     if (servers == NULL || !is_server(servers) || strlen(servers) >= TEXT || (trusted != NULL && strlen(trusted) >= TEXT)) {
         *why = "the broker's address is none: nats://ADDRESS:PORT was expected";
         return NULL;
@@ -194,10 +194,10 @@ broker *broker_open(const char *servers, const char *trusted, const char **why) 
         return NULL;
     }
     self->is_wanted = true;
-    nkey_draw(&self->settings.user, NKEY_USER);
+    faz_nkey_draw(&self->settings.user, NKEY_USER);
     if (!take_servers(&self->settings, servers)) {
         *why = "the pass in the broker's address can't be read: a sign of it may be wrong or missing";
-        broker_close(self);
+        faz_lobby_broker_close(self);
         return NULL;
     }
     if (trusted != NULL)
@@ -205,11 +205,11 @@ broker *broker_open(const char *servers, const char *trusted, const char **why) 
     return self;
 }
 
-const uint8_t *broker_inbox(const broker *self) {
+const uint8_t *faz_lobby_broker_inbox(const broker *self) {
     return self->settings.user.open;
 }
 
-bool broker_has_pass(const broker *self) {
+bool faz_lobby_broker_has_pass(const broker *self) {
     return self->settings.token[0] != 0;
 }
 
@@ -220,15 +220,15 @@ static void let_go(broker *self) {
     }
 }
 
-void broker_close(broker *self) {
+void faz_lobby_broker_close(broker *self) {
     if (self == NULL)
         return;
-    aside_leave(self->making);
+    faz_aside_leave(self->making);
     let_go(self);
     aside *last = finish_aside(self->connection);
-    for (int waited = 0; last != NULL && !aside_is_over(last) && waited < LAST; waited++)
+    for (int waited = 0; last != NULL && !faz_aside_is_over(last) && waited < LAST; waited++)
         faz_ice_wait();
-    aside_leave(last);
+    faz_aside_leave(last);
     sodium_memzero(self, sizeof *self);
     free(self);
 }
@@ -245,7 +245,7 @@ static void begin(broker *self) {
     if (self->made == NULL)
         return;
     *self->made = self->settings;
-    self->making = aside_begin(make, drop, self->made);
+    self->making = faz_aside_begin(make, drop, self->made);
     if (self->making == NULL)
         forget(self->made);
 }
@@ -255,13 +255,13 @@ static void take(broker *self) {
     natsConnection *connection = self->made->connection;
     memcpy(self->why, self->made->why, sizeof self->why);
     forget(self->made);
-    aside_take(self->making);
+    faz_aside_take(self->making);
     self->making = NULL;
     self->again_at = self->now + AGAIN;
     if (connection == NULL)
         return;
     let_go(self);
-    aside_leave(finish_aside(self->connection));
+    faz_aside_leave(finish_aside(self->connection));
     self->connection = connection;
     self->is_wanted = false;
     for (int at = 0; at < HEARD; at++)
@@ -276,32 +276,32 @@ static void look_at_end(broker *self) {
     self->again_at = self->now + RECONNECT + randombytes_uniform(RECONNECT);
 }
 
-void broker_turn(broker *self, uint32_t now) {
+void faz_lobby_broker_turn(broker *self, uint32_t now) {
     self->now = now;
     if (!self->has_turned)
         self->again_at = now;
     self->has_turned = true;
     look_at_end(self);
-    if (self->making != NULL && aside_is_over(self->making))
+    if (self->making != NULL && faz_aside_is_over(self->making))
         take(self);
     else if (self->making == NULL && self->is_wanted && (int32_t)(now - self->again_at) >= 0)
         begin(self);
 }
 
-bool broker_is_there(const broker *self) {
+bool faz_lobby_broker_is_there(const broker *self) {
     return self->connection != NULL && natsConnection_Status(self->connection) == NATS_CONN_STATUS_CONNECTED;
 }
 
-const char *broker_why(const broker *self) {
+const char *faz_lobby_broker_why(const broker *self) {
     return self->why[0] != 0 ? self->why : NULL;
 }
 
-void broker_renew(broker *self) {
+void faz_lobby_broker_renew(broker *self) {
     self->is_wanted = true;
     self->again_at = self->now;
 }
 
-void broker_hear(broker *self, int place, const char *subject) {
+void faz_lobby_broker_hear(broker *self, int place, const char *subject) {
     if (place < 0 || place >= HEARD || strlen(subject) >= BROKER_SUBJECT)
         return;
     natsSubscription_Destroy(self->heard[place]);
@@ -310,8 +310,8 @@ void broker_hear(broker *self, int place, const char *subject) {
     subscribe(self, place);
 }
 
-bool broker_say(broker *self, const char *subject, const char *reply, const uint8_t *bytes, size_t length) {
-    if (!broker_is_there(self) || length >= BROKER_MESSAGE)
+bool faz_lobby_broker_say(broker *self, const char *subject, const char *reply, const uint8_t *bytes, size_t length) {
+    if (!faz_lobby_broker_is_there(self) || length >= BROKER_MESSAGE)
         return false;
     natsStatus status = reply != NULL ? natsConnection_PublishRequest(self->connection, subject, reply, bytes, (int)length)
                                       : natsConnection_Publish(self->connection, subject, bytes, (int)length);
@@ -331,7 +331,7 @@ static bool copy(broker_message *to, const natsMsg *from) {
     return true;
 }
 
-bool broker_next(broker *self, broker_message *message) {
+bool faz_lobby_broker_next(broker *self, broker_message *message) {
     for (int at = 0; at < HEARD; at++) {
         natsMsg *came = NULL;
         natsStatus status = self->heard[at] != NULL ? natsSubscription_NextMsg(&came, self->heard[at], 0) : NATS_TIMEOUT;

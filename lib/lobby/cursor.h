@@ -12,14 +12,14 @@ typedef struct cursor {
     bool is_good; /* there was room so far */
 } cursor;
 
-void cursor_put(cursor *self, const void *bytes, size_t length);
-void cursor_put_number(cursor *self, uint64_t number, int bytes);
+void faz_cursor_put(cursor *self, const void *bytes, size_t length);
+void faz_cursor_put_number(cursor *self, uint64_t number, int bytes);
 
 /* Where there isn't so much, zeros are read. */
-void cursor_get(cursor *self, void *bytes, size_t length);
-uint64_t cursor_get_number(cursor *self, int bytes);
+void faz_cursor_get(cursor *self, void *bytes, size_t length);
+uint64_t faz_cursor_get_number(cursor *self, int bytes);
 
 /* A text with its length before it, less than `room` bytes. */
-void cursor_put_text(cursor *self, const char *text);
-void cursor_get_text(cursor *self, char *text, size_t room);
+void faz_cursor_put_text(cursor *self, const char *text);
+void faz_cursor_get_text(cursor *self, char *text, size_t room);
 #endif

@@ -57,9 +57,9 @@ typedef struct door_answer {
     uint32_t seconds;                          /* for which they are good */
 } door_answer;
 
-size_t door_request_write(const door_request *self, uint8_t out[DOOR_MESSAGE]);
-bool door_request_read(door_request *self, const uint8_t *bytes, size_t length);
+size_t faz_door_request_write(const door_request *self, uint8_t out[DOOR_MESSAGE]);
+bool faz_door_request_read(door_request *self, const uint8_t *bytes, size_t length);
 /* Zero: it is too long. */
-size_t door_answer_write(const door_answer *self, const uint8_t open[KEY], uint8_t out[DOOR_MESSAGE]);
-bool door_answer_read(door_answer *self, const uint8_t open[KEY], const uint8_t secret[KEY], const uint8_t *bytes, size_t length);
+size_t faz_door_answer_write(const door_answer *self, const uint8_t open[KEY], uint8_t out[DOOR_MESSAGE]);
+bool faz_door_answer_read(door_answer *self, const uint8_t open[KEY], const uint8_t secret[KEY], const uint8_t *bytes, size_t length);
 #endif

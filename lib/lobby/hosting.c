@@ -13,8 +13,8 @@ enum { GONE_AFTER = 10000 };
 static void say_answer(faz_lobby *self, guest *to, const answer *text) {
     uint8_t message[BROKER_MESSAGE];
     char subject[BROKER_SUBJECT];
-    inbox_subject(to->inbox, subject);
-    broker_say(self->broker, subject, NULL, message, answer_write(text, &to->pair, message));
+    faz_inbox_subject(to->inbox, subject);
+    faz_lobby_broker_say(self->broker, subject, NULL, message, faz_answer_write(text, &to->pair, message));
 }
 
 /* Tells a guest how it stands. */
@@ -28,7 +28,7 @@ static void tell(faz_lobby *self, guest *to) {
         text.what = BEGINS;
         text.table = self->table;
         text.table.me = to->machine;
-        host_vouch(text.table.proof, self->hosting.secret, to->pair.theirs);
+        faz_host_vouch(text.table.proof, self->hosting.secret, to->pair.theirs);
     } else if (to->stage == GUEST_SEATED) {
         text.what = SEATED;
     }
@@ -56,16 +56,16 @@ static void seat(faz_lobby *self, guest *one) {
         return;
     }
     one->stage = GUEST_SEATED;
-    faz_lobby_event *event = lobby_tell(self, FAZ_LOBBY_JOINED, FAZGROND_NO_MACHINE, one->name);
+    faz_lobby_event *event = faz_lobby_tell(self, FAZ_LOBBY_JOINED, FAZGROND_NO_MACHINE, one->name);
     event->who = one->who;
-    pair_words(&one->pair, event->text);
+    faz_pair_words(&one->pair, event->text);
 }
 
 /* Forgets a guest, but for its key: what it has said may be said again by others. */
 static void forget(faz_lobby *self, guest *one) {
     if (one->stage == GUEST_SEATED || one->stage == GUEST_ASKS)
-        lobby_tell(self, FAZ_LOBBY_LEFT, FAZGROND_NO_MACHINE, one->name)->who = one->who;
-    seen_note(&self->hosting.gone, one->pair.theirs);
+        faz_lobby_tell(self, FAZ_LOBBY_LEFT, FAZGROND_NO_MACHINE, one->name)->who = one->who;
+    faz_seen_note(&self->hosting.gone, one->pair.theirs);
     sodium_memzero(one, sizeof *one);
 }
 
@@ -99,8 +99,8 @@ static void lay_table(faz_lobby *self) {
     to->lasts = self->lasts;
     to->asks = self->hosting.asks;
     memcpy(to->host, self->hosting.open, KEY);
-    code_of(to->code, to->host);
-    host_vouch(to->proof, self->hosting.secret, self->keys.open);
+    faz_code_of(to->code, to->host);
+    faz_host_vouch(to->proof, self->hosting.secret, self->keys.open);
     place(self, self->keys.open, self->inbox, self->name, self->here);
     for (int at = 0; at < GUESTS; at++) {
         guest *one = &self->hosting.guest[at];
@@ -111,7 +111,7 @@ static void lay_table(faz_lobby *self) {
     }
     for (; vacant > 0; vacant--)
         place_vacant(to);
-    mesh_open(self);
+    faz_mesh_open(self);
     for (int at = 0; at < GUESTS; at++)
         if (self->hosting.guest[at].stage == GUEST_SEATED)
             tell(self, &self->hosting.guest[at]);
@@ -132,7 +132,7 @@ bool faz_lobby_begin(faz_lobby *self) {
 
 bool faz_lobby_let_in(faz_lobby *self, uint32_t who, bool yes) {
     if (self->is_known)
-        return late_let_in(self, who, yes);
+        return faz_late_let_in(self, who, yes);
     for (int at = 0; at < GUESTS && self->is_host; at++) {
         guest *one = &self->hosting.guest[at];
         if (one->stage != GUEST_ASKS || one->who != who)
@@ -150,32 +150,32 @@ bool faz_lobby_let_in(faz_lobby *self, uint32_t who, bool yes) {
 
 /* ---- what guests say */
 
-size_t host_offer(const faz_lobby *self, const room *in, uint8_t out[BROKER_MESSAGE]) {
+size_t faz_host_offer(const faz_lobby *self, const room *in, uint8_t out[BROKER_MESSAGE]) {
     offer ours = {.version = LOBBY_VERSION};
     memcpy(ours.host, self->hosting.open, KEY);
     memcpy(ours.speaks, self->keys.open, KEY);
     memcpy(ours.inbox, self->inbox, INBOX);
-    host_vouch(ours.proof, self->hosting.secret, ours.speaks);
-    return offer_write(&ours, in, out);
+    faz_host_vouch(ours.proof, self->hosting.secret, ours.speaks);
+    return faz_offer_write(&ours, in, out);
 }
 
 static void hear_hello(faz_lobby *self, const broker_message *message) {
     uint8_t out[BROKER_MESSAGE];
     hello came;
-    if (!self->hosting.has_short_code && hello_read(&came, &self->room, message->bytes, message->length))
-        broker_say(self->broker, message->reply, NULL, out, host_offer(self, &self->room, out));
+    if (!self->hosting.has_short_code && faz_hello_read(&came, &self->room, message->bytes, message->length))
+        faz_lobby_broker_say(self->broker, message->reply, NULL, out, faz_host_offer(self, &self->room, out));
 }
 
 /* By which room's key somebody asks, and whose key it names; null if by none. */
 static const room *room_of_ask(const faz_lobby *self, uint8_t open[KEY], const broker_message *message) {
     const hosting *hosts = &self->hosting;
-    if (!hosts->has_short_code && ask_open(open, &self->room, message->bytes, message->length))
+    if (!hosts->has_short_code && faz_ask_open(open, &self->room, message->bytes, message->length))
         return &self->room;
     for (int at = 0; at < GUESTS; at++)
-        if (hosts->guest[at].stage != GUEST_NONE && ask_open(open, &hosts->guest[at].room, message->bytes, message->length))
+        if (hosts->guest[at].stage != GUEST_NONE && faz_ask_open(open, &hosts->guest[at].room, message->bytes, message->length))
             return &hosts->guest[at].room;
     for (int at = 0; at < KNOCKERS; at++)
-        if (hosts->knocker[at].is_proven && ask_open(open, &hosts->knocker[at].room, message->bytes, message->length))
+        if (hosts->knocker[at].is_proven && faz_ask_open(open, &hosts->knocker[at].room, message->bytes, message->length))
             return &hosts->knocker[at].room;
     return NULL;
 }
@@ -202,16 +202,16 @@ static void take_in(faz_lobby *self, guest *one) {
         seat(self, one);
     } else {
         one->stage = GUEST_ASKS;
-        faz_lobby_event *event = lobby_tell(self, FAZ_LOBBY_ASKS, FAZGROND_NO_MACHINE, one->name);
+        faz_lobby_event *event = faz_lobby_tell(self, FAZ_LOBBY_ASKS, FAZGROND_NO_MACHINE, one->name);
         event->who = one->who;
-        pair_words(&one->pair, event->text);
+        faz_pair_words(&one->pair, event->text);
     }
 }
 
 /* A page of the same game can't come in, and the player is told. */
 static void refuse_page(faz_lobby *self, guest *one) {
     refuse(one, FAZ_LOBBY_A_PAGE);
-    lobby_tell(self, FAZ_LOBBY_REFUSED, FAZGROND_NO_MACHINE, one->name)->why = FAZ_LOBBY_A_PAGE;
+    faz_lobby_tell(self, FAZ_LOBBY_REFUSED, FAZGROND_NO_MACHINE, one->name)->why = FAZ_LOBBY_A_PAGE;
 }
 
 static void note_ask(faz_lobby *self, guest *one, const ask *came) {
@@ -235,16 +235,16 @@ static void note_ask(faz_lobby *self, guest *one, const ask *came) {
 static bool read_ask(faz_lobby *self, guest *one, const room *in, const uint8_t open[KEY], const broker_message *message,
                      ask *came) {
     bool is_new = one->stage == GUEST_NONE;
-    if (is_new && !pair_of(&one->pair, in, self->keys.open, self->keys.secret, open))
+    if (is_new && !faz_pair_of(&one->pair, in, self->keys.open, self->keys.secret, open))
         return false;
-    return ask_read(came, in, &one->pair, message->bytes, message->length) && (is_new || came->counter > one->counter);
+    return faz_ask_read(came, in, &one->pair, message->bytes, message->length) && (is_new || came->counter > one->counter);
 }
 
 static void hear_ask(faz_lobby *self, const broker_message *message, const uint8_t inbox[INBOX]) {
     uint8_t open[KEY];
     ask came;
     const room *in = room_of_ask(self, open, message);
-    guest *one = in != NULL && !seen_has(&self->hosting.gone, open) ? guest_of(self, open) : NULL;
+    guest *one = in != NULL && !faz_seen_has(&self->hosting.gone, open) ? guest_of(self, open) : NULL;
     if (one == NULL || !read_ask(self, one, in, open, message, &came))
         return;
     bool is_new = one->stage == GUEST_NONE;
@@ -263,13 +263,13 @@ static void hear_ask(faz_lobby *self, const broker_message *message, const uint8
     look_at_seats(self);
 }
 
-void host_hear(faz_lobby *self, const broker_message *message) {
+void faz_host_hear(faz_lobby *self, const broker_message *message) {
     uint8_t inbox[INBOX];
-    bool is_of_now = inbox_read(message->reply, inbox);
-    if (message->length == 0 || (!is_of_now && !inbox_is_older(message->reply)))
+    bool is_of_now = faz_inbox_read(message->reply, inbox);
+    if (message->length == 0 || (!is_of_now && !faz_inbox_is_older(message->reply)))
         return;
     if (message->bytes[0] == KNOCK && self->hosting.has_short_code && (!self->is_ready || self->table.lasts))
-        knock_hear(self, message);
+        faz_knock_hear(self, message);
     else if (message->bytes[0] == HELLO)
         hear_hello(self, message);
     else if (message->bytes[0] == ASK && is_of_now)
@@ -277,17 +277,17 @@ void host_hear(faz_lobby *self, const broker_message *message) {
 }
 
 /* Who is in the match stays in it: its line says whether it is there. */
-void host_turn(faz_lobby *self) {
-    knock_turn(self);
+void faz_host_turn(faz_lobby *self) {
+    faz_knock_turn(self);
     for (int at = 0; at < GUESTS; at++) {
         guest *one = &self->hosting.guest[at];
         bool is_in = one->stage == GUEST_SEATED && self->is_known;
-        if (one->stage != GUEST_NONE && !is_in && lobby_since(self, one->heard_at) >= GONE_AFTER)
+        if (one->stage != GUEST_NONE && !is_in && faz_lobby_since(self, one->heard_at) >= GONE_AFTER)
             forget(self, one);
     }
 }
 
-void host_close(faz_lobby *self) {
+void faz_host_close(faz_lobby *self) {
     for (int at = 0; at < GUESTS; at++) {
         guest *one = &self->hosting.guest[at];
         if (one->stage != GUEST_ASKS && one->stage != GUEST_SEATED)

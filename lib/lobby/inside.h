@@ -190,91 +190,91 @@ struct faz_lobby {
 /* ---- lobby.c */
 
 /* For how many milliseconds a moment is past. */
-uint32_t lobby_since(const faz_lobby *self, uint32_t moment);
+uint32_t faz_lobby_since(const faz_lobby *self, uint32_t moment);
 /* As much of a text as there is room for. */
-void lobby_copy(char *out, size_t room, const char *text);
+void faz_lobby_copy(char *out, size_t room, const char *text);
 /* An event, whose text is filled in by who asks for it. */
-faz_lobby_event *lobby_tell(faz_lobby *self, faz_lobby_what what, uint32_t machine, const char *name);
+faz_lobby_event *faz_lobby_tell(faz_lobby *self, faz_lobby_what what, uint32_t machine, const char *name);
 /* It is over. */
-void lobby_end(faz_lobby *self, faz_lobby_why why, const char *text);
+void faz_lobby_end(faz_lobby *self, faz_lobby_why why, const char *text);
 /* A host is found by a code that is a hash of its key. */
-void lobby_open_by_hash(faz_lobby *self);
+void faz_lobby_open_by_hash(faz_lobby *self);
 /* That code is told, and why there is another one. */
-void lobby_tell_code(faz_lobby *self, faz_lobby_why why);
+void faz_lobby_tell_code(faz_lobby *self, faz_lobby_why why);
 
 /* ---- servers.c */
 
 /* Takes servers over. What is wrong with them; null if nothing is. */
-const char *lobby_copy_servers(faz_lobby *self, const faz_lobby_settings *settings);
+const char *faz_lobby_copy_servers(faz_lobby *self, const faz_lobby_settings *settings);
 /* Looks their names up beside the game, if some are no addresses. True once all are addresses. */
-bool lobby_has_addresses(faz_lobby *self);
+bool faz_lobby_has_addresses(faz_lobby *self);
 
 /* Relays and a STUN server of the door's: for lines that are opened later, and for those that are open. */
-void lobby_take_servers(faz_lobby *self, const door_answer *answer);
+void faz_lobby_take_servers(faz_lobby *self, const door_answer *answer);
 
 /* ---- asking.c: the door */
 
 /* Where its answers are heard, among what the broker hears: so it is known that it is the door, and not a host, whom nobody hears. */
 enum { DOOR_PLACE = 3 };
 
-void asking_begin(faz_lobby *self, door_kind kind, bool takes_relays);
-void asking_turn(faz_lobby *self);
-void asking_hear(faz_lobby *self, const broker_message *message);
+void faz_asking_begin(faz_lobby *self, door_kind kind, bool takes_relays);
+void faz_asking_turn(faz_lobby *self);
+void faz_asking_hear(faz_lobby *self, const broker_message *message);
 /* Whether lines needn't wait for its relays: they are there, or long in coming. */
-bool asking_is_over(const faz_lobby *self);
+bool faz_asking_is_over(const faz_lobby *self);
 
 /* ---- knocking.c: short codes, at the host */
 
-void knock_begin(faz_lobby *self);
-void knock_plate(faz_lobby *self, const char plate[PLATE_TEXT]);
-void knock_hear(faz_lobby *self, const broker_message *message);
-void knock_turn(faz_lobby *self);
-void knock_close(faz_lobby *self);
+void faz_knock_begin(faz_lobby *self);
+void faz_knock_plate(faz_lobby *self, const char plate[PLATE_TEXT]);
+void faz_knock_hear(faz_lobby *self, const broker_message *message);
+void faz_knock_turn(faz_lobby *self);
+void faz_knock_close(faz_lobby *self);
 
 /* ---- hosting.c */
 
 /* What the host says about itself, sealed for those who have a room's key. */
-size_t host_offer(const faz_lobby *self, const room *in, uint8_t out[BROKER_MESSAGE]);
+size_t faz_host_offer(const faz_lobby *self, const room *in, uint8_t out[BROKER_MESSAGE]);
 
-void host_hear(faz_lobby *self, const broker_message *message);
-void host_turn(faz_lobby *self);
-void host_close(faz_lobby *self);
+void faz_host_hear(faz_lobby *self, const broker_message *message);
+void faz_host_turn(faz_lobby *self);
+void faz_host_close(faz_lobby *self);
 
 /* ---- joining.c */
 
-void join_hear(faz_lobby *self, const broker_message *message);
+void faz_join_hear(faz_lobby *self, const broker_message *message);
 /* What the door said of the plate. */
-void join_door(faz_lobby *self, const door_answer *answer);
-void join_turn(faz_lobby *self);
-void join_close(faz_lobby *self);
+void faz_join_door(faz_lobby *self, const door_answer *answer);
+void faz_join_turn(faz_lobby *self);
+void faz_join_close(faz_lobby *self);
 
 /* ---- late.c */
 
 /* The match is known, and whoever comes is heard from now on. */
-void late_begin(faz_lobby *self);
+void faz_late_begin(faz_lobby *self);
 /* False: it is nobody's who comes. */
-bool late_hear(faz_lobby *self, const broker_message *message);
-void late_turn(faz_lobby *self);
-bool late_let_in(faz_lobby *self, uint32_t who, bool yes);
+bool faz_late_hear(faz_lobby *self, const broker_message *message);
+void faz_late_turn(faz_lobby *self);
+bool faz_late_let_in(faz_lobby *self, uint32_t who, bool yes);
 
 /* ---- mesh.c */
 
-bool mesh_has_line(const faz_lobby *self, uint32_t machine);
+bool faz_mesh_has_line(const faz_lobby *self, uint32_t machine);
 /* Whether nobody has this place yet. */
-bool mesh_is_vacant(const faz_lobby *self, uint32_t machine);
+bool faz_mesh_is_vacant(const faz_lobby *self, uint32_t machine);
 /* Whether a key is or was anybody's of this match. No other line is opened by it: both would have the same keys, and count from the same
  * number. */
-bool mesh_knows(const faz_lobby *self, const uint8_t open[KEY]);
+bool faz_mesh_knows(const faz_lobby *self, const uint8_t open[KEY]);
 /* There is somebody else in a place, whose key nobody had: the line to it is another one. */
-void mesh_replace(faz_lobby *self, uint32_t place, const member *who);
+void faz_mesh_replace(faz_lobby *self, uint32_t place, const member *who);
 
 /* Who joins opens a line to the host while that is asked, once, as soon as all servers have addresses. */
-void mesh_open_ahead(faz_lobby *self);
-void mesh_drop_ahead(faz_lobby *self);
+void faz_mesh_open_ahead(faz_lobby *self);
+void faz_mesh_drop_ahead(faz_lobby *self);
 
 /* The table is there: lines are opened with all others, as soon as all servers have addresses. */
-void mesh_open(faz_lobby *self);
-void mesh_hear(faz_lobby *self, const broker_message *message);
-void mesh_turn(faz_lobby *self);
-void mesh_close(faz_lobby *self);
+void faz_mesh_open(faz_lobby *self);
+void faz_mesh_hear(faz_lobby *self, const broker_message *message);
+void faz_mesh_turn(faz_lobby *self);
+void faz_mesh_close(faz_lobby *self);
 #endif

@@ -13,7 +13,7 @@ enum { SAID_AGAIN = 500, SEATED_AGAIN = 2000, NEVER_ANSWERED = 10000, GONE_AFTER
 enum { MOST_KNOCKS = 3 };
 
 static void say(faz_lobby *self, const char *subject, const uint8_t *message, size_t length) {
-    if (broker_say(self->broker, subject, self->inbox_name, message, length)) {
+    if (faz_lobby_broker_say(self->broker, subject, self->inbox_name, message, length)) {
         self->joining.has_said = true;
         self->joining.said_at = self->now;
     }
@@ -21,14 +21,14 @@ static void say(faz_lobby *self, const char *subject, const uint8_t *message, si
 
 static void say_knock(faz_lobby *self) {
     uint8_t message[BROKER_MESSAGE];
-    say(self, self->room_name, message, knock_write(&self->joining.knock, KNOCK, message));
+    say(self, self->room_name, message, faz_knock_write(&self->joining.knock, KNOCK, message));
 }
 
 static void say_hello(faz_lobby *self) {
     uint8_t message[BROKER_MESSAGE];
     hello text = {.version = LOBBY_VERSION};
     memcpy(text.open, self->keys.open, KEY);
-    say(self, self->room_name, message, hello_write(&text, &self->room, message));
+    say(self, self->room_name, message, faz_hello_write(&text, &self->room, message));
 }
 
 static void say_ask(faz_lobby *self, bool leaves) {
@@ -36,7 +36,7 @@ static void say_ask(faz_lobby *self, bool leaves) {
     ask text = {.counter = ++self->joining.counter, .leaves = leaves, .digest = self->digest, .here = self->here};
     memcpy(text.open, self->keys.open, KEY);
     strcpy(text.name, self->name);
-    say(self, self->joining.host_name, message, ask_write(&text, &self->room, &self->joining.host, message));
+    say(self, self->joining.host_name, message, faz_ask_write(&text, &self->room, &self->joining.host, message));
 }
 
 /* ---- what the host says */
@@ -59,7 +59,7 @@ static const char UNANSWERED[] =
 
 /* What isn't sealed may be anybody's word: it ends nothing before its time, and the player is told of it once. */
 static void tell_doubt(faz_lobby *self, faz_lobby_why why, const char *what, int waits) {
-    faz_lobby_event *event = lobby_tell(self, FAZ_LOBBY_UNANSWERED, FAZGROND_NO_MACHINE, "");
+    faz_lobby_event *event = faz_lobby_tell(self, FAZ_LOBBY_UNANSWERED, FAZGROND_NO_MACHINE, "");
     event->why = why;
     snprintf(event->text, sizeof event->text, "%s: waiting for %d seconds at most", what, waits / 1000);
 }
@@ -86,23 +86,23 @@ static void doubt_code(faz_lobby *self) {
 /* With a short code the key by which the offer is sealed says that it is the host's. */
 static bool is_of_host(const faz_lobby *self, const offer *came) {
     uint8_t code[CODE_BYTES];
-    code_of(code, came->host);
+    faz_code_of(code, came->host);
     return (self->joining.has_short_code || memcmp(code, self->joining.code, CODE_BYTES) == 0)
-        && host_vouched(came->proof, came->host, came->speaks);
+        && faz_host_vouched(came->proof, came->host, came->speaks);
 }
 
 static void hear_offer(faz_lobby *self, const uint8_t *bytes, size_t length) {
     joining *joins = &self->joining;
     offer came;
-    if ((joins->stage != SAYS_HELLO && !joins->has_key) || !offer_read(&came, &self->room, bytes, length))
+    if ((joins->stage != SAYS_HELLO && !joins->has_key) || !faz_offer_read(&came, &self->room, bytes, length))
         return;
     if (came.version != LOBBY_VERSION) {
-        lobby_end(self, FAZ_LOBBY_OTHER_LIBRARY, REASONS[FAZ_LOBBY_OTHER_LIBRARY]);
+        faz_lobby_end(self, FAZ_LOBBY_OTHER_LIBRARY, REASONS[FAZ_LOBBY_OTHER_LIBRARY]);
         return;
     }
-    if (!is_of_host(self, &came) || !pair_of(&joins->host, &self->room, self->keys.open, self->keys.secret, came.speaks))
+    if (!is_of_host(self, &came) || !faz_pair_of(&joins->host, &self->room, self->keys.open, self->keys.secret, came.speaks))
         return;
-    inbox_subject(came.inbox, joins->host_name);
+    faz_inbox_subject(came.inbox, joins->host_name);
     joins->has_key = false;
     joins->stage = ASKS_TO_JOIN;
     joins->heard_at = self->now;
@@ -113,36 +113,36 @@ static void hear_offer(faz_lobby *self, const uint8_t *bytes, size_t length) {
 
 static bool begin_to_knock(faz_lobby *self) {
     joining *joins = &self->joining;
-    joins->pake = pake_open(false, joins->plate, joins->secret_signs);
+    joins->pake = faz_pake_open(false, joins->plate, joins->secret_signs);
     if (joins->pake == NULL)
         return false;
     joins->stage = KNOCKS;
     joins->knocks++;
     joins->knock.step = 1;
     randombytes_buf(joins->knock.id, KNOCK_ID);
-    return pake_turn(joins->pake, NULL, 0, joins->knock.bytes, &joins->knock.length) == PAKE_MORE;
+    return faz_pake_turn(joins->pake, NULL, 0, joins->knock.bytes, &joins->knock.length) == PAKE_MORE;
 }
 
-void join_door(faz_lobby *self, const door_answer *answer) {
+void faz_join_door(faz_lobby *self, const door_answer *answer) {
     if (self->joining.stage != ASKS_DOOR)
         return;
     if (answer->status == DOOR_TOO_MANY) {
-        lobby_end(self, FAZ_LOBBY_TOO_MANY, REASONS[FAZ_LOBBY_TOO_MANY]);
+        faz_lobby_end(self, FAZ_LOBBY_TOO_MANY, REASONS[FAZ_LOBBY_TOO_MANY]);
     } else if (answer->status != DOOR_OK) {
-        lobby_end(self, FAZ_LOBBY_NO_SUCH_CODE, REASONS[FAZ_LOBBY_NO_SUCH_CODE]);
+        faz_lobby_end(self, FAZ_LOBBY_NO_SUCH_CODE, REASONS[FAZ_LOBBY_NO_SUCH_CODE]);
     } else {
-        room_named(&self->room, answer->token);
-        room_subject(&self->room, self->room_name);
+        faz_room_named(&self->room, answer->token);
+        faz_room_subject(&self->room, self->room_name);
         self->joining.heard_at = self->now;
         if (!begin_to_knock(self))
-            lobby_end(self, FAZ_LOBBY_SYSTEM, "there is no memory");
+            faz_lobby_end(self, FAZ_LOBBY_SYSTEM, "there is no memory");
         else
             say_knock(self);
     }
 }
 
 static void drop_pake(joining *joins) {
-    pake_close(joins->pake);
+    faz_pake_close(joins->pake);
     joins->pake = NULL;
 }
 
@@ -155,7 +155,7 @@ static void knock_anew(faz_lobby *self) {
 
 static void go_on_knocking(faz_lobby *self, const knock *came) {
     joining *joins = &self->joining;
-    pake_answer now = pake_turn(joins->pake, came->bytes, came->length, joins->knock.bytes, &joins->knock.length);
+    pake_answer now = faz_pake_turn(joins->pake, came->bytes, came->length, joins->knock.bytes, &joins->knock.length);
     switch (now == PAKE_MORE && joins->knock.length == 0 ? PAKE_WRONG : now) {
     case PAKE_WRONG:
         doubt_code(self);
@@ -167,7 +167,7 @@ static void go_on_knocking(faz_lobby *self, const knock *came) {
         say_knock(self);
         break;
     case PAKE_DONE:
-        pake_key(joins->pake, self->room.key);
+        faz_pake_key(joins->pake, self->room.key);
         drop_pake(joins);
         joins->has_key = true;
         break;
@@ -178,7 +178,7 @@ static void hear_knocked(faz_lobby *self, const broker_message *message) {
     joining *joins = &self->joining;
     knock came;
     size_t more;
-    if (joins->stage != KNOCKS || !knock_read(&came, KNOCKED, message->bytes, message->length, &more)
+    if (joins->stage != KNOCKS || !faz_knock_read(&came, KNOCKED, message->bytes, message->length, &more)
         || memcmp(came.id, joins->knock.id, KNOCK_ID) != 0 || came.step != joins->knock.step)
         return;
     if (came.is_wrong)
@@ -200,7 +200,7 @@ static void note_seat(faz_lobby *self, const answer *came) {
     if (came->what == WAITS || joins->is_seated)
         return;
     joins->is_seated = true;
-    pair_words(&joins->host, lobby_tell(self, FAZ_LOBBY_JOINED, 0, came->name)->text);
+    faz_pair_words(&joins->host, faz_lobby_tell(self, FAZ_LOBBY_JOINED, 0, came->name)->text);
 }
 
 /* Whether the table names this machine in its place, and whoever answers by the key that it speaks by: the host, or in a match
@@ -215,28 +215,28 @@ static bool is_ours(const faz_lobby *self, const table *came) {
 static void hear_answer(faz_lobby *self, const broker_message *message) {
     joining *joins = &self->joining;
     answer came;
-    if (joins->stage != ASKS_TO_JOIN || !answer_read(&came, &joins->host, message->bytes, message->length)
+    if (joins->stage != ASKS_TO_JOIN || !faz_answer_read(&came, &joins->host, message->bytes, message->length)
         || came.counter <= joins->answers)
         return;
     joins->answers = came.counter;
     joins->heard_at = self->now;
     if (came.what == REFUSED) {
-        lobby_end(self, came.why, REASONS[came.why <= FAZ_LOBBY_A_PAGE ? came.why : FAZ_LOBBY_NO_REASON]);
+        faz_lobby_end(self, came.why, REASONS[came.why <= FAZ_LOBBY_A_PAGE ? came.why : FAZ_LOBBY_NO_REASON]);
         return;
     }
     if (came.what == WAITS && !joins->is_asked) {
         joins->is_asked = true;
-        pair_words(&joins->host, lobby_tell(self, FAZ_LOBBY_ASKS, 0, came.name)->text);
+        faz_pair_words(&joins->host, faz_lobby_tell(self, FAZ_LOBBY_ASKS, 0, came.name)->text);
     }
     note_seat(self, &came);
     if (came.what == BEGINS && is_ours(self, &came.table)) {
         joins->stage = HAS_TABLE;
         self->table = came.table;
-        mesh_open(self);
+        faz_mesh_open(self);
     }
 }
 
-void join_hear(faz_lobby *self, const broker_message *message) {
+void faz_join_hear(faz_lobby *self, const broker_message *message) {
     if (message->is_nobody)
         hear_nobody(self);
     else if (message->length > 0 && message->bytes[0] == OFFER)
@@ -251,26 +251,26 @@ void join_hear(faz_lobby *self, const broker_message *message) {
 
 static bool is_due(const faz_lobby *self) {
     uint32_t pause = self->joining.is_seated ? SEATED_AGAIN : SAID_AGAIN;
-    return !self->joining.has_said || lobby_since(self, self->joining.said_at) >= pause;
+    return !self->joining.has_said || faz_lobby_since(self, self->joining.said_at) >= pause;
 }
 
 /* Time counts while the broker is there. */
 static void give_up(faz_lobby *self) {
     joining *joins = &self->joining;
     bool is_unanswered = joins->stage < ASKS_TO_JOIN;
-    if (!broker_is_there(self->broker) || !joins->has_said)
+    if (!faz_lobby_broker_is_there(self->broker) || !joins->has_said)
         joins->heard_at = joins->wrong_at = self->now;
-    if (is_unanswered && joins->is_wrong && lobby_since(self, joins->wrong_at) >= BELIEVED)
-        lobby_end(self, FAZ_LOBBY_WRONG_CODE, REASONS[FAZ_LOBBY_WRONG_CODE]);
-    else if (is_unanswered && lobby_since(self, joins->heard_at) >= NEVER_ANSWERED)
-        lobby_end(self, FAZ_LOBBY_NO_SUCH_CODE, joins->is_unheard ? REASONS[FAZ_LOBBY_NO_SUCH_CODE] : UNANSWERED);
-    else if (lobby_since(self, joins->heard_at) >= GONE_AFTER)
-        lobby_end(self, FAZ_LOBBY_HOST_LEFT, REASONS[FAZ_LOBBY_HOST_LEFT]);
+    if (is_unanswered && joins->is_wrong && faz_lobby_since(self, joins->wrong_at) >= BELIEVED)
+        faz_lobby_end(self, FAZ_LOBBY_WRONG_CODE, REASONS[FAZ_LOBBY_WRONG_CODE]);
+    else if (is_unanswered && faz_lobby_since(self, joins->heard_at) >= NEVER_ANSWERED)
+        faz_lobby_end(self, FAZ_LOBBY_NO_SUCH_CODE, joins->is_unheard ? REASONS[FAZ_LOBBY_NO_SUCH_CODE] : UNANSWERED);
+    else if (faz_lobby_since(self, joins->heard_at) >= GONE_AFTER)
+        faz_lobby_end(self, FAZ_LOBBY_HOST_LEFT, REASONS[FAZ_LOBBY_HOST_LEFT]);
 }
 
-void join_turn(faz_lobby *self) {
+void faz_join_turn(faz_lobby *self) {
     const joining *joins = &self->joining;
-    bool is_to_say = broker_is_there(self->broker) && is_due(self);
+    bool is_to_say = faz_lobby_broker_is_there(self->broker) && is_due(self);
     switch (joins->stage) {
     case NO_CODE:
     case ASKS_DOOR:
@@ -280,13 +280,13 @@ void join_turn(faz_lobby *self) {
     case ASKS_TO_JOIN:
         if (is_to_say)
             say_ask(self, false);
-        mesh_open_ahead(self);
+        faz_mesh_open_ahead(self);
         break;
     }
     give_up(self);
 }
 
-void join_close(faz_lobby *self) {
+void faz_join_close(faz_lobby *self) {
     if (self->joining.stage == ASKS_TO_JOIN && !self->is_over)
         say_ask(self, true);
 }

@@ -19,7 +19,7 @@ static void follow(uint8_t *out, size_t length, const char *what, const uint8_t 
 
 /* ---- the code */
 
-void code_of(uint8_t code[CODE_BYTES], const uint8_t host[KEY]) {
+void faz_code_of(uint8_t code[CODE_BYTES], const uint8_t host[KEY]) {
     follow(code, CODE_BYTES, "fazgrond code 1", host, KEY);
 }
 
@@ -32,7 +32,7 @@ static void complete(uint8_t out[CODE_BYTES + CHECKED], const uint8_t code[CODE_
     out[CODE_BYTES + 1] = hash[1] & 0xf0;
 }
 
-void code_write(const uint8_t code[CODE_BYTES], char out[CODE_TEXT]) {
+void faz_code_write(const uint8_t code[CODE_BYTES], char out[CODE_TEXT]) {
     uint8_t all[CODE_BYTES + CHECKED];
     complete(all, code);
     for (unsigned at = 0; at < CODE_SIGNS; at++) {
@@ -52,7 +52,7 @@ static int sign_of(char letter) {
     return found != NULL ? (int)(found - SIGNS) : -1;
 }
 
-bool code_read(const char *text, uint8_t code[CODE_BYTES]) {
+bool faz_code_read(const char *text, uint8_t code[CODE_BYTES]) {
     uint8_t all[CODE_BYTES + CHECKED + 1] = {0}, due[CODE_BYTES + CHECKED];
     unsigned bit = 0;
     for (; *text != 0; text++) {
@@ -75,11 +75,11 @@ bool code_read(const char *text, uint8_t code[CODE_BYTES]) {
 
 enum { PLATE_SIGNS = PLATE_TEXT - 1, SHORT_SIGNS = PLATE_TEXT + SHORT_SECRET - 2 };
 
-void short_write(const char plate[PLATE_TEXT], const char secret[SHORT_SECRET], char out[CODE_TEXT]) {
+void faz_short_write(const char plate[PLATE_TEXT], const char secret[SHORT_SECRET], char out[CODE_TEXT]) {
     snprintf(out, CODE_TEXT, "%s-%s", plate, secret);
 }
 
-bool short_read(const char *text, char plate[PLATE_TEXT], char secret[SHORT_SECRET]) {
+bool faz_short_read(const char *text, char plate[PLATE_TEXT], char secret[SHORT_SECRET]) {
     char signs[SHORT_SIGNS + 1] = {0};
     int count = 0;
     for (; *text != 0; text++) {
@@ -96,7 +96,7 @@ bool short_read(const char *text, char plate[PLATE_TEXT], char secret[SHORT_SECR
     return count == SHORT_SIGNS;
 }
 
-void short_draw(char secret[SHORT_SECRET]) {
+void faz_short_draw(char secret[SHORT_SECRET]) {
     for (int at = 0; at < SHORT_SECRET - 1; at++)
         secret[at] = SIGNS[randombytes_uniform(sizeof SIGNS - 1)];
     secret[SHORT_SECRET - 1] = 0;
@@ -104,11 +104,11 @@ void short_draw(char secret[SHORT_SECRET]) {
 
 /* ---- rooms */
 
-void room_named(room *self, const uint8_t token[CODE_BYTES]) {
+void faz_room_named(room *self, const uint8_t token[CODE_BYTES]) {
     sodium_bin2hex(self->name, sizeof self->name, token, CODE_BYTES);
 }
 
-void room_of(room *self, const uint8_t code[CODE_BYTES]) {
+void faz_room_of(room *self, const uint8_t code[CODE_BYTES]) {
     uint8_t name[DIGITS / 2];
     follow(name, sizeof name, "fazgrond room 1", code, CODE_BYTES);
     sodium_bin2hex(self->name, sizeof self->name, name, sizeof name);
@@ -119,7 +119,7 @@ void room_of(room *self, const uint8_t code[CODE_BYTES]) {
 
 static const char VOUCHED[] = "fazgrond speaks 1";
 
-void host_draw(uint8_t open[KEY], uint8_t secret[SECRET]) {
+void faz_host_draw(uint8_t open[KEY], uint8_t secret[SECRET]) {
     crypto_sign_keypair(open, secret);
 }
 
@@ -128,13 +128,13 @@ static void vouched(uint8_t out[sizeof VOUCHED + KEY], const uint8_t speaks[KEY]
     memcpy(out + sizeof VOUCHED, speaks, KEY);
 }
 
-void host_vouch(uint8_t proof[PROOF], const uint8_t secret[SECRET], const uint8_t speaks[KEY]) {
+void faz_host_vouch(uint8_t proof[PROOF], const uint8_t secret[SECRET], const uint8_t speaks[KEY]) {
     uint8_t text[sizeof VOUCHED + KEY];
     vouched(text, speaks);
     crypto_sign_detached(proof, NULL, text, sizeof text, secret);
 }
 
-bool host_vouched(const uint8_t proof[PROOF], const uint8_t open[KEY], const uint8_t speaks[KEY]) {
+bool faz_host_vouched(const uint8_t proof[PROOF], const uint8_t open[KEY], const uint8_t speaks[KEY]) {
     uint8_t text[sizeof VOUCHED + KEY];
     vouched(text, speaks);
     return crypto_sign_verify_detached(proof, text, sizeof text, open) == 0;
@@ -142,7 +142,7 @@ bool host_vouched(const uint8_t proof[PROOF], const uint8_t open[KEY], const uin
 
 /* ---- pairs */
 
-bool pair_of(pair *self, const room *in, const uint8_t ours[KEY], const uint8_t secret[KEY], const uint8_t theirs[KEY]) {
+bool faz_pair_of(pair *self, const room *in, const uint8_t ours[KEY], const uint8_t secret[KEY], const uint8_t theirs[KEY]) {
     static const char what[] = "fazgrond pair 1";
     crypto_generichash_state state;
     uint8_t shared[KEY];
@@ -161,7 +161,7 @@ bool pair_of(pair *self, const room *in, const uint8_t ours[KEY], const uint8_t 
     return true;
 }
 
-void pair_words(const pair *self, char out[WORDS]) {
+void faz_pair_words(const pair *self, char out[WORDS]) {
     uint8_t hash[CODE_BYTES];
     follow(hash, sizeof hash, "fazgrond words 1", self->key, KEY);
     for (int at = 0; at < 8; at++) {
@@ -174,11 +174,11 @@ void pair_words(const pair *self, char out[WORDS]) {
 
 /* ---- keys that were here */
 
-void seen_note(seen_keys *self, const uint8_t open[KEY]) {
+void faz_seen_note(seen_keys *self, const uint8_t open[KEY]) {
     memcpy(self->key[self->count++ % SEEN], open, KEY);
 }
 
-bool seen_has(const seen_keys *self, const uint8_t open[KEY]) {
+bool faz_seen_has(const seen_keys *self, const uint8_t open[KEY]) {
     uint32_t kept = self->count < SEEN ? self->count : SEEN;
     for (uint32_t at = 0; at < kept; at++)
         if (memcmp(self->key[at], open, KEY) == 0)
@@ -198,11 +198,11 @@ static bool open(uint8_t *out, const uint8_t key[KEY], const uint8_t *bytes, siz
         && crypto_aead_xchacha20poly1305_ietf_decrypt(out, NULL, NULL, bytes + NONCE, length - NONCE, more, count, bytes, key) == 0;
 }
 
-void room_seal(const room *self, uint8_t *out, uint8_t kind, const uint8_t *bytes, size_t length) {
+void faz_room_seal(const room *self, uint8_t *out, uint8_t kind, const uint8_t *bytes, size_t length) {
     seal(out, self->key, bytes, length, &kind, 1);
 }
 
-bool room_open(const room *self, uint8_t *out, uint8_t kind, const uint8_t *bytes, size_t length) {
+bool faz_room_open(const room *self, uint8_t *out, uint8_t kind, const uint8_t *bytes, size_t length) {
     return open(out, self->key, bytes, length, &kind, 1);
 }
 
@@ -212,13 +212,13 @@ static void of_pair(uint8_t more[1 + KEY], uint8_t kind, const uint8_t maker[KEY
     memcpy(more + 1, maker, KEY);
 }
 
-void pair_seal(const pair *self, uint8_t *out, uint8_t kind, const uint8_t *bytes, size_t length) {
+void faz_pair_seal(const pair *self, uint8_t *out, uint8_t kind, const uint8_t *bytes, size_t length) {
     uint8_t more[1 + KEY];
     of_pair(more, kind, self->ours);
     seal(out, self->key, bytes, length, more, sizeof more);
 }
 
-bool pair_open(const pair *self, uint8_t *out, uint8_t kind, const uint8_t *bytes, size_t length) {
+bool faz_pair_open(const pair *self, uint8_t *out, uint8_t kind, const uint8_t *bytes, size_t length) {
     uint8_t more[1 + KEY];
     of_pair(more, kind, self->theirs);
     return open(out, self->key, bytes, length, more, sizeof more);

@@ -20,22 +20,22 @@ enum {
 
 /* ---- The code. No server is trusted: it isn't what a server was told, and only its host has the key that it is a hash of. */
 
-void code_of(uint8_t code[CODE_BYTES], const uint8_t host[KEY]);
+void faz_code_of(uint8_t code[CODE_BYTES], const uint8_t host[KEY]);
 
 /* Four groups of seven signs, with 12 bits by which a slip of the pen is known. */
-void code_write(const uint8_t code[CODE_BYTES], char out[CODE_TEXT]);
+void faz_code_write(const uint8_t code[CODE_BYTES], char out[CODE_TEXT]);
 
 /* False: it is none. */
-bool code_read(const char *text, uint8_t code[CODE_BYTES]);
+bool faz_code_read(const char *text, uint8_t code[CODE_BYTES]);
 
 /* ---- A short code: a plate of three signs, by which the host is found, and four that nobody is told but friends. */
 
 enum { PLATE_TEXT = 4, SHORT_SECRET = 5 };
 
 /* "KXQ-4H7P" */
-void short_write(const char plate[PLATE_TEXT], const char secret[SHORT_SECRET], char out[CODE_TEXT]);
-bool short_read(const char *text, char plate[PLATE_TEXT], char secret[SHORT_SECRET]);
-void short_draw(char secret[SHORT_SECRET]);
+void faz_short_write(const char plate[PLATE_TEXT], const char secret[SHORT_SECRET], char out[CODE_TEXT]);
+bool faz_short_read(const char *text, char plate[PLATE_TEXT], char secret[SHORT_SECRET]);
+void faz_short_draw(char secret[SHORT_SECRET]);
 
 /* ---- What all know who have the code: under which name they meet, and a key. */
 
@@ -44,16 +44,16 @@ typedef struct room {
     uint8_t key[KEY];
 } room;
 
-void room_of(room *self, const uint8_t code[CODE_BYTES]);
+void faz_room_of(room *self, const uint8_t code[CODE_BYTES]);
 
 /* The name under which the host of a short code is heard, by what the door was told. Its key is for later. */
-void room_named(room *self, const uint8_t token[CODE_BYTES]);
+void faz_room_named(room *self, const uint8_t token[CODE_BYTES]);
 
 /* ---- The host vouches for a key by which a machine speaks. */
 
-void host_draw(uint8_t open[KEY], uint8_t secret[SECRET]);
-void host_vouch(uint8_t proof[PROOF], const uint8_t secret[SECRET], const uint8_t speaks[KEY]);
-bool host_vouched(const uint8_t proof[PROOF], const uint8_t open[KEY], const uint8_t speaks[KEY]);
+void faz_host_draw(uint8_t open[KEY], uint8_t secret[SECRET]);
+void faz_host_vouch(uint8_t proof[PROOF], const uint8_t secret[SECRET], const uint8_t speaks[KEY]);
+bool faz_host_vouched(const uint8_t proof[PROOF], const uint8_t open[KEY], const uint8_t speaks[KEY]);
 
 /* ---- What two machines have, of whom each knows the other's open key. */
 
@@ -63,10 +63,10 @@ typedef struct pair {
 } pair;
 
 /* False: theirs is none. */
-bool pair_of(pair *self, const room *in, const uint8_t ours[KEY], const uint8_t secret[KEY], const uint8_t theirs[KEY]);
+bool faz_pair_of(pair *self, const room *in, const uint8_t ours[KEY], const uint8_t secret[KEY], const uint8_t theirs[KEY]);
 
 /* Signs that both see alike, and who stands between the two can't make alike: "Q7KM-2XPA". */
-void pair_words(const pair *self, char out[WORDS]);
+void faz_pair_words(const pair *self, char out[WORDS]);
 
 /* ---- Keys that were here, so that nobody comes by one of them again. A full list forgets the oldest one. */
 
@@ -77,14 +77,14 @@ typedef struct seen_keys {
     uint32_t count; /* of all that were noted */
 } seen_keys;
 
-void seen_note(seen_keys *self, const uint8_t open[KEY]);
-bool seen_has(const seen_keys *self, const uint8_t open[KEY]);
+void faz_seen_note(seen_keys *self, const uint8_t open[KEY]);
+bool faz_seen_has(const seen_keys *self, const uint8_t open[KEY]);
 
 /* ---- Messages, sealed for all who have the code, or for the other one of a pair. `kind` is sealed with them. What is made is
  * SEAL bytes longer, and what is opened as much shorter. */
 
-void room_seal(const room *self, uint8_t *out, uint8_t kind, const uint8_t *bytes, size_t length);
-bool room_open(const room *self, uint8_t *out, uint8_t kind, const uint8_t *bytes, size_t length);
-void pair_seal(const pair *self, uint8_t *out, uint8_t kind, const uint8_t *bytes, size_t length);
-bool pair_open(const pair *self, uint8_t *out, uint8_t kind, const uint8_t *bytes, size_t length);
+void faz_room_seal(const room *self, uint8_t *out, uint8_t kind, const uint8_t *bytes, size_t length);
+bool faz_room_open(const room *self, uint8_t *out, uint8_t kind, const uint8_t *bytes, size_t length);
+void faz_pair_seal(const pair *self, uint8_t *out, uint8_t kind, const uint8_t *bytes, size_t length);
+bool faz_pair_open(const pair *self, uint8_t *out, uint8_t kind, const uint8_t *bytes, size_t length);
 #endif

@@ -11,7 +11,7 @@ enum { SHOWN_WITHIN = 5000, ASKED_WITHIN = 10000 };
 enum { WRONG_TRIES = 5, WRONG_IN_ALL = 20 };
 
 static void drop(knocker *one) {
-    pake_close(one->pake);
+    faz_pake_close(one->pake);
     sodium_memzero(one, sizeof *one);
 }
 
@@ -25,26 +25,26 @@ static void forget_code(hosting *hosts) {
 }
 
 /* Another name under which this host is heard, and another secret; the door is asked for a plate. */
-void knock_begin(faz_lobby *self) {
+void faz_knock_begin(faz_lobby *self) {
     hosting *hosts = &self->hosting;
     forget_code(hosts);
-    short_draw(hosts->secret_signs);
+    faz_short_draw(hosts->secret_signs);
     self->door.request.plate[0] = 0;
     randombytes_buf(self->door.request.token, DOOR_TOKEN);
     self->door.is_answered = self->door.has_said = false;
-    room_named(&self->room, self->door.request.token);
-    room_subject(&self->room, self->room_name);
-    broker_hear(self->broker, 1, self->room_name);
+    faz_room_named(&self->room, self->door.request.token);
+    faz_room_subject(&self->room, self->room_name);
+    faz_lobby_broker_hear(self->broker, 1, self->room_name);
 }
 
-void knock_plate(faz_lobby *self, const char plate[PLATE_TEXT]) {
+void faz_knock_plate(faz_lobby *self, const char plate[PLATE_TEXT]) {
     hosting *hosts = &self->hosting;
     if (strcmp(hosts->plate, plate) == 0)
         return;
-    lobby_copy(hosts->plate, sizeof hosts->plate, plate);
-    lobby_copy(self->door.request.plate, sizeof self->door.request.plate, plate);
-    faz_lobby_event *event = lobby_tell(self, FAZ_LOBBY_CODE, 0, self->name);
-    short_write(hosts->plate, hosts->secret_signs, event->text);
+    faz_lobby_copy(hosts->plate, sizeof hosts->plate, plate);
+    faz_lobby_copy(self->door.request.plate, sizeof self->door.request.plate, plate);
+    faz_lobby_event *event = faz_lobby_tell(self, FAZ_LOBBY_CODE, 0, self->name);
+    faz_short_write(hosts->plate, hosts->secret_signs, event->text);
     event->why = hosts->why;
     hosts->why = FAZ_LOBBY_NO_REASON;
 }
@@ -55,10 +55,10 @@ static void end_short_code(faz_lobby *self) {
     self->door.request.kind = DOOR_RELAYS;
     if (!self->is_known) {
         self->hosting.has_short_code = false;
-        lobby_open_by_hash(self);
+        faz_lobby_open_by_hash(self);
     }
     if (!self->is_known || self->table.lasts)
-        lobby_tell_code(self, FAZ_LOBBY_WRONG_CODE);
+        faz_lobby_tell_code(self, FAZ_LOBBY_WRONG_CODE);
 }
 
 /* In a match that runs no other short code is drawn. */
@@ -72,7 +72,7 @@ static void note_wrong(faz_lobby *self) {
     if (self->is_known || hosts->wrong_all >= WRONG_IN_ALL)
         end_short_code(self);
     else
-        knock_begin(self);
+        faz_knock_begin(self);
 }
 
 /* The one with this id; or a free place for one that begins; or null. */
@@ -89,7 +89,7 @@ static knocker *knocker_of(faz_lobby *self, const knock *came) {
 }
 
 static bool begin(faz_lobby *self, knocker *one, const knock *came, const char *subject) {
-    one->pake = pake_open(true, self->hosting.plate, self->hosting.secret_signs);
+    one->pake = faz_pake_open(true, self->hosting.plate, self->hosting.secret_signs);
     one->is_there = one->pake != NULL;
     one->begun_at = self->now;
     memcpy(one->id, came->id, KNOCK_ID);
@@ -102,8 +102,8 @@ static size_t prove(faz_lobby *self, knocker *one, size_t length) {
     uint8_t text[BROKER_MESSAGE];
     one->is_proven = true;
     one->begun_at = self->now;
-    pake_key(one->pake, one->room.key);
-    size_t more = host_offer(self, &one->room, text);
+    faz_pake_key(one->pake, one->room.key);
+    size_t more = faz_host_offer(self, &one->room, text);
     if (length + more >= BROKER_MESSAGE)
         return length;
     memcpy(one->said + length, text, more);
@@ -113,24 +113,24 @@ static size_t prove(faz_lobby *self, knocker *one, size_t length) {
 static void reply(faz_lobby *self, knocker *one, const knock *came) {
     knock text = {.step = came->step};
     memcpy(text.id, one->id, KNOCK_ID);
-    pake_answer now = pake_turn(one->pake, came->bytes, came->length, text.bytes, &text.length);
+    pake_answer now = faz_pake_turn(one->pake, came->bytes, came->length, text.bytes, &text.length);
     self->hosting.has_worked = true;
     text.is_wrong = now == PAKE_WRONG;
     one->step = came->step;
-    one->length = knock_write(&text, KNOCKED, one->said);
+    one->length = faz_knock_write(&text, KNOCKED, one->said);
     if (now == PAKE_DONE)
         one->length = prove(self, one, one->length);
-    broker_say(self->broker, one->subject, NULL, one->said, one->length);
+    faz_lobby_broker_say(self->broker, one->subject, NULL, one->said, one->length);
     if (now != PAKE_WRONG)
         return;
     drop(one);
     note_wrong(self);
 }
 
-void knock_hear(faz_lobby *self, const broker_message *message) {
+void faz_knock_hear(faz_lobby *self, const broker_message *message) {
     knock came;
     size_t more;
-    if (self->hosting.plate[0] == 0 || !knock_read(&came, KNOCK, message->bytes, message->length, &more))
+    if (self->hosting.plate[0] == 0 || !faz_knock_read(&came, KNOCK, message->bytes, message->length, &more))
         return;
     knocker *one = knocker_of(self, &came);
     bool is_said = one != NULL && one->is_there && came.step == one->step;
@@ -139,17 +139,17 @@ void knock_hear(faz_lobby *self, const broker_message *message) {
     if (one == NULL || (!one->is_there && !begin(self, one, &came, message->reply)) || strcmp(one->subject, message->reply) != 0)
         return;
     if (is_said)
-        broker_say(self->broker, one->subject, NULL, one->said, one->length);
+        faz_lobby_broker_say(self->broker, one->subject, NULL, one->said, one->length);
     else if (came.step == one->step + 1 && !one->is_proven)
         reply(self, one, &came);
 }
 
 /* Who doesn't show that it knows the code has had its try. */
-void knock_turn(faz_lobby *self) {
+void faz_knock_turn(faz_lobby *self) {
     self->hosting.has_worked = false;
     for (int at = 0; at < KNOCKERS; at++) {
         knocker *one = &self->hosting.knocker[at];
-        if (!one->is_there || lobby_since(self, one->begun_at) < (one->is_proven ? ASKED_WITHIN : SHOWN_WITHIN))
+        if (!one->is_there || faz_lobby_since(self, one->begun_at) < (one->is_proven ? ASKED_WITHIN : SHOWN_WITHIN))
             continue;
         bool is_proven = one->is_proven;
         drop(one);
@@ -158,7 +158,7 @@ void knock_turn(faz_lobby *self) {
     }
 }
 
-void knock_close(faz_lobby *self) {
+void faz_knock_close(faz_lobby *self) {
     for (int at = 0; at < KNOCKERS; at++)
         drop(&self->hosting.knocker[at]);
 }

@@ -10,13 +10,13 @@
  * comes. */
 enum { STOPPED_AFTER = 300, BACK_AFTER = 1500, OTHER_AFTER = 5000, TOLD_AGAIN = 500, TOLD_FOR = 10000, GONE_AFTER = 10000 };
 
-void late_begin(faz_lobby *self) {
+void faz_late_begin(faz_lobby *self) {
     char subject[BROKER_SUBJECT];
     if (!self->table.lasts)
         return;
-    room_of(&self->later, self->table.code);
-    room_subject(&self->later, subject);
-    broker_hear(self->broker, self->is_host && !self->hosting.has_short_code ? 1 : 2, subject);
+    faz_room_of(&self->later, self->table.code);
+    faz_room_subject(&self->later, subject);
+    faz_lobby_broker_hear(self->broker, self->is_host && !self->hosting.has_short_code ? 1 : 2, subject);
 }
 
 /* ---- places */
@@ -40,8 +40,8 @@ typedef enum fit { TAKEN, SILENT, VACANT, MAYBE_OWN, OWN } fit;
 static fit fit_of(const faz_lobby *self, const comer *one, uint32_t machine) {
     if (players_of(&self->table, machine) != one->here)
         return TAKEN;
-    if (!mesh_has_line(self, machine))
-        return mesh_is_vacant(self, machine) ? VACANT : TAKEN;
+    if (!faz_mesh_has_line(self, machine))
+        return faz_mesh_is_vacant(self, machine) ? VACANT : TAKEN;
     uint32_t silence = silence_of(self, machine);
     if (strcmp(self->table.member[machine].name, one->name) == 0)
         return silence >= BACK_AFTER ? OWN : silence >= STOPPED_AFTER ? MAYBE_OWN : TAKEN;
@@ -65,14 +65,14 @@ static uint32_t place_for(const faz_lobby *self, const comer *one) {
 /* Whether this machine answers: those before it don't hear who comes, or aren't there. */
 static bool answers(const faz_lobby *self) {
     for (uint32_t machine = 0; machine < self->table.me; machine++)
-        if (mesh_has_line(self, machine) && silence_of(self, machine) < BACK_AFTER)
+        if (faz_mesh_has_line(self, machine) && silence_of(self, machine) < BACK_AFTER)
             return false;
     return self->is_ready;
 }
 
 /* Whoever has come, or has left, is known by its key no more. */
 static void forget(faz_lobby *self, comer *one) {
-    seen_note(&self->hosting.gone, one->pair.theirs);
+    faz_seen_note(&self->hosting.gone, one->pair.theirs);
     sodium_memzero(one, sizeof *one);
 }
 
@@ -88,9 +88,9 @@ static void tell(faz_lobby *self, comer *to) {
     text.table.is_late = true;
     memset(text.table.proof, 0, PROOF);
     if (self->is_host)
-        host_vouch(text.table.proof, self->hosting.secret, to->pair.theirs);
-    inbox_subject(to->inbox, subject);
-    broker_say(self->broker, subject, NULL, message, answer_write(&text, &to->pair, message));
+        faz_host_vouch(text.table.proof, self->hosting.secret, to->pair.theirs);
+    faz_inbox_subject(to->inbox, subject);
+    faz_lobby_broker_say(self->broker, subject, NULL, message, faz_answer_write(&text, &to->pair, message));
     to->told_at = self->now;
 }
 
@@ -98,8 +98,8 @@ static void refuse(faz_lobby *self, comer *to, faz_lobby_why why) {
     uint8_t message[BROKER_MESSAGE];
     char subject[BROKER_SUBJECT];
     answer text = {.counter = ++to->answers, .what = REFUSED, .why = why};
-    inbox_subject(to->inbox, subject);
-    broker_say(self->broker, subject, NULL, message, answer_write(&text, &to->pair, message));
+    faz_inbox_subject(to->inbox, subject);
+    faz_lobby_broker_say(self->broker, subject, NULL, message, faz_answer_write(&text, &to->pair, message));
     forget(self, to);
 }
 
@@ -107,9 +107,9 @@ static void tell_others(faz_lobby *self, const comer *of) {
     uint8_t message[BROKER_MESSAGE];
     news text = {of->news, of->place, self->table.member[of->place]};
     for (uint32_t machine = 0; machine < self->table.machines; machine++)
-        if (mesh_has_line(self, machine) && machine != of->place)
-            broker_say(self->broker, self->other[machine].subject, NULL, message,
-                       news_write(self->table.me, &text, &self->other[machine].pair, message));
+        if (faz_mesh_has_line(self, machine) && machine != of->place)
+            faz_lobby_broker_say(self->broker, self->other[machine].subject, NULL, message,
+                       faz_news_write(self->table.me, &text, &self->other[machine].pair, message));
 }
 
 /* Gives who comes a place, once there is one. */
@@ -125,7 +125,7 @@ static void place(faz_lobby *self, comer *one) {
     one->is_placed = true;
     one->placed_at = self->now;
     one->news = ++self->news;
-    mesh_replace(self, found, &who);
+    faz_mesh_replace(self, found, &who);
     tell_others(self, one);
     tell(self, one);
 }
@@ -147,13 +147,13 @@ static comer *comer_of(faz_lobby *self, const uint8_t open[KEY]) {
 static const room *room_of_ask(const faz_lobby *self, uint8_t open[KEY], const broker_message *message) {
     for (int at = 0; at < KNOCKERS; at++) {
         const knocker *one = &self->hosting.knocker[at];
-        if (one->is_proven && ask_open(open, &one->room, message->bytes, message->length))
+        if (one->is_proven && faz_ask_open(open, &one->room, message->bytes, message->length))
             return &one->room;
     }
     for (int at = 0; at < COMERS; at++)
-        if (self->comer[at].is_there && ask_open(open, &self->comer[at].room, message->bytes, message->length))
+        if (self->comer[at].is_there && faz_ask_open(open, &self->comer[at].room, message->bytes, message->length))
             return &self->comer[at].room;
-    return ask_open(open, &self->later, message->bytes, message->length) ? &self->later : NULL;
+    return faz_ask_open(open, &self->later, message->bytes, message->length) ? &self->later : NULL;
 }
 
 /* Somebody asks for the first time. */
@@ -167,21 +167,21 @@ static void take_in(faz_lobby *self, comer *one, const ask *came, const room *in
     strcpy(one->name, came->name);
     if (one->is_let_in)
         return;
-    faz_lobby_event *event = lobby_tell(self, FAZ_LOBBY_ASKS, FAZGROND_NO_MACHINE, one->name);
+    faz_lobby_event *event = faz_lobby_tell(self, FAZ_LOBBY_ASKS, FAZGROND_NO_MACHINE, one->name);
     event->who = one->who;
-    pair_words(&one->pair, event->text);
+    faz_pair_words(&one->pair, event->text);
 }
 
 static void hear_ask(faz_lobby *self, const broker_message *message, const uint8_t inbox[INBOX], const room *in,
                      const uint8_t open[KEY]) {
     ask came;
-    comer *one = seen_has(&self->hosting.gone, open) ? NULL : comer_of(self, open);
+    comer *one = faz_seen_has(&self->hosting.gone, open) ? NULL : comer_of(self, open);
     if (one == NULL)
         return;
     bool is_new = !one->is_there;
-    if (is_new && (mesh_knows(self, open) || !pair_of(&one->pair, in, self->keys.open, self->keys.secret, open)))
+    if (is_new && (faz_mesh_knows(self, open) || !faz_pair_of(&one->pair, in, self->keys.open, self->keys.secret, open)))
         return;
-    if (!ask_read(&came, in, &one->pair, message->bytes, message->length) || (!is_new && came.counter <= one->counter))
+    if (!faz_ask_read(&came, in, &one->pair, message->bytes, message->length) || (!is_new && came.counter <= one->counter))
         return;
     if (is_new && came.leaves)
         return;
@@ -201,13 +201,13 @@ static void hear_hello(faz_lobby *self, const broker_message *message) {
     uint8_t out[BROKER_MESSAGE];
     hello came;
     offer ours = {.version = LOBBY_VERSION};
-    if (!answers(self) || !hello_read(&came, &self->later, message->bytes, message->length))
+    if (!answers(self) || !faz_hello_read(&came, &self->later, message->bytes, message->length))
         return;
     memcpy(ours.host, self->table.host, KEY);
     memcpy(ours.speaks, self->keys.open, KEY);
     memcpy(ours.proof, self->table.proof, PROOF);
     memcpy(ours.inbox, self->inbox, INBOX);
-    broker_say(self->broker, message->reply, NULL, out, offer_write(&ours, &self->later, out));
+    faz_lobby_broker_say(self->broker, message->reply, NULL, out, faz_offer_write(&ours, &self->later, out));
 }
 
 /* A guest of the host's, who asks again for the table, is the host's. */
@@ -218,12 +218,12 @@ static bool is_guest(const faz_lobby *self, const uint8_t open[KEY]) {
     return false;
 }
 
-bool late_hear(faz_lobby *self, const broker_message *message) {
+bool faz_late_hear(faz_lobby *self, const broker_message *message) {
     uint8_t inbox[INBOX], open[KEY];
     if (!self->is_known || !self->table.lasts || message->is_nobody || message->length == 0)
         return false;
-    bool is_of_now = inbox_read(message->reply, inbox);
-    if (message->bytes[0] == HELLO && (is_of_now || inbox_is_older(message->reply))) {
+    bool is_of_now = faz_inbox_read(message->reply, inbox);
+    if (message->bytes[0] == HELLO && (is_of_now || faz_inbox_is_older(message->reply))) {
         hear_hello(self, message);
         return true;
     }
@@ -236,22 +236,22 @@ bool late_hear(faz_lobby *self, const broker_message *message) {
     return true;
 }
 
-void late_turn(faz_lobby *self) {
+void faz_late_turn(faz_lobby *self) {
     for (int at = 0; at < COMERS; at++) {
         comer *one = &self->comer[at];
         if (!one->is_there)
             continue;
         place(self, one);
-        if (one->is_placed && lobby_since(self, one->told_at) >= TOLD_AGAIN) {
+        if (one->is_placed && faz_lobby_since(self, one->told_at) >= TOLD_AGAIN) {
             tell_others(self, one);
             one->told_at = self->now;
         }
-        if (lobby_since(self, one->is_placed ? one->placed_at : one->heard_at) >= (one->is_placed ? TOLD_FOR : GONE_AFTER))
+        if (faz_lobby_since(self, one->is_placed ? one->placed_at : one->heard_at) >= (one->is_placed ? TOLD_FOR : GONE_AFTER))
             forget(self, one);
     }
 }
 
-bool late_let_in(faz_lobby *self, uint32_t who, bool yes) {
+bool faz_late_let_in(faz_lobby *self, uint32_t who, bool yes) {
     for (int at = 0; at < COMERS; at++) {
         comer *one = &self->comer[at];
         if (!one->is_there || one->who != who || one->is_let_in)

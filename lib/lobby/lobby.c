@@ -12,12 +12,12 @@ enum { LOOKED = 250, SILENT_AFTER = 10000 };
 /* So many messages are taken in a turn. */
 enum { TAKEN = 64 };
 
-uint32_t lobby_since(const faz_lobby *self, uint32_t moment) {
+uint32_t faz_lobby_since(const faz_lobby *self, uint32_t moment) {
     uint32_t passed = self->now - moment;
     return passed < UINT32_C(1) << 31 ? passed : 0;
 }
 
-void lobby_copy(char *out, size_t room, const char *text) {
+void faz_lobby_copy(char *out, size_t room, const char *text) {
     size_t length = strlen(text) < room ? strlen(text) : room - 1;
     memcpy(out, text, length);
     out[length] = 0;
@@ -25,12 +25,12 @@ void lobby_copy(char *out, size_t room, const char *text) {
 
 /* ---- events */
 
-faz_lobby_event *lobby_tell(faz_lobby *self, faz_lobby_what what, uint32_t machine, const char *name) {
+faz_lobby_event *faz_lobby_tell(faz_lobby *self, faz_lobby_what what, uint32_t machine, const char *name) {
     faz_lobby_event *event = &self->events[self->last_event++ % EVENTS];
     memset(event, 0, sizeof *event);
     event->what = what;
     event->machine = machine;
-    lobby_copy(event->name, sizeof event->name, name);
+    faz_lobby_copy(event->name, sizeof event->name, name);
     if (self->last_event - self->first_event > EVENTS)
         self->first_event++;
     return event;
@@ -43,13 +43,13 @@ bool faz_lobby_next_event(faz_lobby *self, faz_lobby_event *event) {
     return true;
 }
 
-void lobby_end(faz_lobby *self, faz_lobby_why why, const char *text) {
+void faz_lobby_end(faz_lobby *self, faz_lobby_why why, const char *text) {
     if (self->is_over)
         return;
     self->is_over = true;
-    faz_lobby_event *event = lobby_tell(self, FAZ_LOBBY_ENDED, FAZGROND_NO_MACHINE, "");
+    faz_lobby_event *event = faz_lobby_tell(self, FAZ_LOBBY_ENDED, FAZGROND_NO_MACHINE, "");
     event->why = why;
-    lobby_copy(event->text, sizeof event->text, text);
+    faz_lobby_copy(event->text, sizeof event->text, text);
 }
 
 faz_lobby_stage faz_lobby_stage_of(const faz_lobby *self) {
@@ -68,33 +68,33 @@ static const char *take_settings(faz_lobby *self, const faz_lobby_settings *sett
     self->lasts = settings->lasts;
     self->has_door = settings->has_door;
     self->wants_relays = settings->stun == NULL && settings->relay_count == 0;
-    name_clean(self->name, settings->name != NULL && *settings->name != 0 ? settings->name : "a player");
+    faz_name_clean(self->name, settings->name != NULL && *settings->name != 0 ? settings->name : "a player");
     if (self->here > FAZGROND_PLAYERS)
         return "there are more players at this machine than a match has";
     if (sodium_init() < 0 || !faz_line_draw(&self->keys))
         return "the system gives no random numbers";
-    return lobby_copy_servers(self, settings);
+    return faz_lobby_copy_servers(self, settings);
 }
 
 faz_lobby *faz_lobby_open(const faz_lobby_settings *settings, const char **why) {
     faz_lobby *self = calloc(1, sizeof *self);
     *why = self == NULL ? "there is no memory" : take_settings(self, settings);
     if (*why == NULL)
-        self->broker = broker_open(settings->broker, settings->trusted, why);
+        self->broker = faz_lobby_broker_open(settings->broker, settings->trusted, why);
     if (*why != NULL) {
         faz_lobby_close(self);
         return NULL;
     }
-    memcpy(self->inbox, broker_inbox(self->broker), INBOX);
-    inbox_subject(self->inbox, self->inbox_name);
-    broker_hear(self->broker, 0, self->inbox_name);
+    memcpy(self->inbox, faz_lobby_broker_inbox(self->broker), INBOX);
+    faz_inbox_subject(self->inbox, self->inbox_name);
+    faz_lobby_broker_hear(self->broker, 0, self->inbox_name);
     self->addresses = faz_ice_addresses();
     return self;
 }
 
 static void enter(faz_lobby *self, const uint8_t code[CODE_BYTES]) {
-    room_of(&self->room, code);
-    room_subject(&self->room, self->room_name);
+    faz_room_of(&self->room, code);
+    faz_room_subject(&self->room, self->room_name);
 }
 
 /* What is wrong with a host's settings; null if they were taken. */
@@ -116,18 +116,18 @@ static const char *take_match(faz_lobby *self, const faz_lobby_settings *setting
 }
 
 /* It is told once friends can be heard. */
-void lobby_open_by_hash(faz_lobby *self) {
+void faz_lobby_open_by_hash(faz_lobby *self) {
     uint8_t code[CODE_BYTES];
-    code_of(code, self->hosting.open);
+    faz_code_of(code, self->hosting.open);
     enter(self, code);
-    broker_hear(self->broker, 1, self->room_name);
+    faz_lobby_broker_hear(self->broker, 1, self->room_name);
 }
 
-void lobby_tell_code(faz_lobby *self, faz_lobby_why why) {
+void faz_lobby_tell_code(faz_lobby *self, faz_lobby_why why) {
     uint8_t code[CODE_BYTES];
-    faz_lobby_event *event = lobby_tell(self, FAZ_LOBBY_CODE, 0, self->name);
-    code_of(code, self->hosting.open);
-    code_write(code, event->text);
+    faz_lobby_event *event = faz_lobby_tell(self, FAZ_LOBBY_CODE, 0, self->name);
+    faz_code_of(code, self->hosting.open);
+    faz_code_write(code, event->text);
     event->why = why;
 }
 
@@ -141,13 +141,13 @@ faz_lobby *faz_lobby_host(const faz_lobby_settings *settings, const char **why) 
         return NULL;
     }
     self->is_host = true;
-    host_draw(self->hosting.open, self->hosting.secret);
+    faz_host_draw(self->hosting.open, self->hosting.secret);
     if (settings->short_code || settings->has_door)
-        asking_begin(self, settings->short_code ? DOOR_HOSTS : DOOR_RELAYS, self->wants_relays);
+        faz_asking_begin(self, settings->short_code ? DOOR_HOSTS : DOOR_RELAYS, self->wants_relays);
     if (settings->short_code)
-        knock_begin(self);
+        faz_knock_begin(self);
     else
-        lobby_open_by_hash(self);
+        faz_lobby_open_by_hash(self);
     return self;
 }
 
@@ -156,15 +156,15 @@ static bool take_code(faz_lobby *self, const char *code) {
     joining *joins = &self->joining;
     if (code == NULL)
         return false;
-    joins->has_short_code = short_read(code, joins->plate, joins->secret_signs);
-    if (!joins->has_short_code && !code_read(code, joins->code))
+    joins->has_short_code = faz_short_read(code, joins->plate, joins->secret_signs);
+    if (!joins->has_short_code && !faz_code_read(code, joins->code))
         return false;
     joins->stage = joins->has_short_code ? ASKS_DOOR : SAYS_HELLO;
     joins->heard_at = self->now;
     if (joins->has_short_code || self->has_door)
-        asking_begin(self, joins->has_short_code ? DOOR_JOINS : DOOR_RELAYS, self->wants_relays);
+        faz_asking_begin(self, joins->has_short_code ? DOOR_JOINS : DOOR_RELAYS, self->wants_relays);
     if (joins->has_short_code)
-        lobby_copy(self->door.request.plate, sizeof self->door.request.plate, joins->plate);
+        faz_lobby_copy(self->door.request.plate, sizeof self->door.request.plate, joins->plate);
     else
         enter(self, joins->code);
     return true;
@@ -190,14 +190,14 @@ void faz_lobby_close(faz_lobby *self) {
     if (self == NULL)
         return;
     if (self->broker != NULL && !self->is_ready && self->is_host)
-        host_close(self);
+        faz_host_close(self);
     if (self->broker != NULL && !self->is_ready && !self->is_host)
-        join_close(self);
-    knock_close(self);
-    pake_close(self->joining.pake);
-    mesh_close(self);
-    aside_leave(self->looking);
-    broker_close(self->broker);
+        faz_join_close(self);
+    faz_knock_close(self);
+    faz_pake_close(self->joining.pake);
+    faz_mesh_close(self);
+    faz_aside_leave(self->looking);
+    faz_lobby_broker_close(self->broker);
     sodium_memzero(self, sizeof *self);
     free(self);
 }
@@ -207,45 +207,45 @@ void faz_lobby_close(faz_lobby *self) {
 static void hear(faz_lobby *self, const broker_message *message) {
     bool is_of_mesh = !message->is_nobody && message->length > 0 && (message->bytes[0] == SIGNAL || message->bytes[0] == NEWS);
     if (message->place == DOOR_PLACE)
-        asking_hear(self, message);
+        faz_asking_hear(self, message);
     else if (is_of_mesh)
-        mesh_hear(self, message);
-    else if (late_hear(self, message))
+        faz_mesh_hear(self, message);
+    else if (faz_late_hear(self, message))
         return;
     else if (self->is_host && !message->is_nobody)
-        host_hear(self, message);
+        faz_host_hear(self, message);
     else if (!self->is_host)
-        join_hear(self, message);
+        faz_join_hear(self, message);
 }
 
 static void hear_all(faz_lobby *self) {
     broker_message message;
-    for (int taken = 0; taken < TAKEN && broker_next(self->broker, &message); taken++)
+    for (int taken = 0; taken < TAKEN && faz_lobby_broker_next(self->broker, &message); taken++)
         hear(self, &message);
 }
 
 /* Tells once that the broker is away, until it is there again. */
 static void look_at_broker(faz_lobby *self) {
-    bool is_there = broker_is_there(self->broker);
-    const char *why = broker_why(self->broker);
+    bool is_there = faz_lobby_broker_is_there(self->broker);
+    const char *why = faz_lobby_broker_why(self->broker);
     if (!is_there && !self->is_away_told && (self->has_been_there || why != NULL)) {
         self->is_away_told = true;
-        lobby_copy(lobby_tell(self, FAZ_LOBBY_AWAY, FAZGROND_NO_MACHINE, "")->text, FAZ_LOBBY_TEXT_ROOM,
+        faz_lobby_copy(faz_lobby_tell(self, FAZ_LOBBY_AWAY, FAZGROND_NO_MACHINE, "")->text, FAZ_LOBBY_TEXT_ROOM,
                    why != NULL ? why : "the broker isn't there");
     }
     if (is_there)
         self->is_away_told = false;
     if (is_there && !self->has_been_there && self->is_host && !self->hosting.has_short_code)
-        lobby_tell_code(self, FAZ_LOBBY_NO_REASON);
+        faz_lobby_tell_code(self, FAZ_LOBBY_NO_REASON);
     self->has_been_there = self->has_been_there || is_there;
 }
 
 static void look_at_addresses(faz_lobby *self) {
-    if (lobby_since(self, self->looked_at) < LOOKED)
+    if (faz_lobby_since(self, self->looked_at) < LOOKED)
         return;
     uint64_t addresses = faz_ice_addresses();
     if (addresses != self->addresses)
-        broker_renew(self->broker);
+        faz_lobby_broker_renew(self->broker);
     self->addresses = addresses;
     self->looked_at = self->now;
 }
@@ -257,18 +257,18 @@ void faz_lobby_turn(faz_lobby *self, uint32_t now) {
     self->has_turned = true;
     if (self->is_over)
         return;
-    lobby_has_addresses(self);
+    faz_lobby_has_addresses(self);
     look_at_addresses(self);
-    broker_turn(self->broker, now);
+    faz_lobby_broker_turn(self->broker, now);
     look_at_broker(self);
-    asking_turn(self);
+    faz_asking_turn(self);
     hear_all(self);
     if (self->is_host)
-        host_turn(self);
+        faz_host_turn(self);
     else
-        join_turn(self);
-    mesh_turn(self);
-    late_turn(self);
+        faz_join_turn(self);
+    faz_mesh_turn(self);
+    faz_late_turn(self);
 }
 
 /* ---- the match */
@@ -300,13 +300,13 @@ bool faz_lobby_get_match(const faz_lobby *self, faz_lobby_match *match) {
     match->digest = self->digest;
     match->is_late = self->table.is_late;
     if (self->table.lasts)
-        code_write(self->table.code, match->code);
+        faz_code_write(self->table.code, match->code);
     match->common_length = self->table.common_length;
     memcpy(match->common, self->table.common, self->table.common_length);
     for (uint32_t at = 0; at < match->machines; at++) {
         strcpy(match->names[at], self->table.member[at].name);
         match->tickets[at] = ticket_of(&self->table, at);
-        match->vacant |= mesh_is_vacant(self, at) ? 1u << at : 0;
+        match->vacant |= faz_mesh_is_vacant(self, at) ? 1u << at : 0;
         match->numbers[at] = self->other[at].line != NULL ? faz_line_number(self->other[at].line) : 0;
     }
     return true;
@@ -323,7 +323,7 @@ bool faz_lobby_get_peer(const faz_lobby *self, fazgrond_match *match) {
         match->numbers[at] = self->other[at].line != NULL ? faz_line_number(self->other[at].line) : match->comers;
     for (uint32_t player = 0; player < FAZGROND_PLAYERS; player++) {
         uint32_t owner = self->table.owners[player];
-        match->owners[player] = mesh_is_vacant(self, owner) ? FAZGROND_NOBODY : owner;
+        match->owners[player] = faz_mesh_is_vacant(self, owner) ? FAZGROND_NOBODY : owner;
     }
     return true;
 }

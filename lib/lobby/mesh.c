@@ -22,16 +22,16 @@ static bool is_other(const faz_lobby *self, uint32_t machine) {
     return self->is_known && machine < self->table.machines && machine != self->table.me;
 }
 
-bool mesh_has_line(const faz_lobby *self, uint32_t machine) {
+bool faz_mesh_has_line(const faz_lobby *self, uint32_t machine) {
     return is_other(self, machine) && self->other[machine].line != NULL;
 }
 
-bool mesh_is_vacant(const faz_lobby *self, uint32_t machine) {
+bool faz_mesh_is_vacant(const faz_lobby *self, uint32_t machine) {
     return is_other(self, machine) && self->table.member[machine].is_vacant;
 }
 
-bool mesh_knows(const faz_lobby *self, const uint8_t open[KEY]) {
-    return self->members.count >= SEEN || seen_has(&self->members, open);
+bool faz_mesh_knows(const faz_lobby *self, const uint8_t open[KEY]) {
+    return self->members.count >= SEEN || faz_seen_has(&self->members, open);
 }
 
 /* ---- opening */
@@ -52,23 +52,23 @@ static faz_line *line_to(const faz_lobby *self, uint32_t me, uint32_t machine, c
 
 /* The host is machine 0 of a match that begins, and its key is that by which it speaks. Which one this machine is to be isn't known: 1
  * stands for any behind the host. */
-void mesh_open_ahead(faz_lobby *self) {
-    if (!self->was_ahead && lobby_has_addresses(self)) {
+void faz_mesh_open_ahead(faz_lobby *self) {
+    if (!self->was_ahead && faz_lobby_has_addresses(self)) {
         self->was_ahead = true;
         self->ahead_at = self->now;
         self->ahead = line_to(self, 1, 0, self->joining.host.theirs);
     }
     if (self->ahead != NULL)
         faz_line_turn(self->ahead, self->now);
-    if (self->ahead != NULL && lobby_since(self, self->ahead_at) >= AHEAD)
-        mesh_drop_ahead(self);
+    if (self->ahead != NULL && faz_lobby_since(self, self->ahead_at) >= AHEAD)
+        faz_mesh_drop_ahead(self);
 }
 
 static bool open_line(faz_lobby *self, uint32_t machine) {
     other *to = &self->other[machine];
     const member *of = &self->table.member[machine];
-    inbox_subject(of->inbox, to->subject);
-    if (!pair_of(&to->pair, &self->mesh, self->keys.open, self->keys.secret, of->open))
+    faz_inbox_subject(of->inbox, to->subject);
+    if (!faz_pair_of(&to->pair, &self->mesh, self->keys.open, self->keys.secret, of->open))
         return false;
     if (machine == 0 && !self->table.is_late) {
         to->line = self->ahead;
@@ -85,31 +85,31 @@ static void hear_early(faz_lobby *self) {
     for (uint32_t at = 0; at < self->earlies; at++) {
         message.length = self->early[at].length;
         memcpy(message.bytes, self->early[at].bytes, message.length);
-        mesh_hear(self, &message);
+        faz_mesh_hear(self, &message);
     }
     self->earlies = 0;
 }
 
-void mesh_open(faz_lobby *self) {
+void faz_mesh_open(faz_lobby *self) {
     self->is_known = true;
     self->known_at = self->now;
     memcpy(self->mesh.key, self->table.key, KEY);
     self->heard = self->table.me;
     for (uint32_t machine = 0; machine < self->table.machines; machine++)
         if (!self->table.member[machine].is_vacant)
-            seen_note(&self->members, self->table.member[machine].open);
-    lobby_tell(self, FAZ_LOBBY_FULL, self->table.me, "");
-    late_begin(self);
+            faz_seen_note(&self->members, self->table.member[machine].open);
+    faz_lobby_tell(self, FAZ_LOBBY_FULL, self->table.me, "");
+    faz_late_begin(self);
 }
 
 static void open_lines(faz_lobby *self) {
     for (uint32_t machine = 0; machine < self->table.machines; machine++)
-        if (is_other(self, machine) && !mesh_is_vacant(self, machine) && !open_line(self, machine)) {
-            lobby_end(self, FAZ_LOBBY_SYSTEM, "a line can't be opened: there is no memory, or no socket, or a machine has no key");
+        if (is_other(self, machine) && !faz_mesh_is_vacant(self, machine) && !open_line(self, machine)) {
+            faz_lobby_end(self, FAZ_LOBBY_SYSTEM, "a line can't be opened: there is no memory, or no socket, or a machine has no key");
             return;
         }
     self->has_lines = true;
-    mesh_drop_ahead(self);
+    faz_mesh_drop_ahead(self);
     hear_early(self);
 }
 
@@ -123,37 +123,37 @@ static void closed(void *of) {
 
 /* A line is closed beside the game, since that may take a while. Null: it is closed already. */
 static aside *close_aside(faz_line *line) {
-    aside *job = line != NULL ? aside_begin(close_line, closed, line) : NULL;
+    aside *job = line != NULL ? faz_aside_begin(close_line, closed, line) : NULL;
     if (job == NULL)
         faz_line_close(line);
     return job;
 }
 
-void mesh_drop_ahead(faz_lobby *self) {
-    aside_leave(close_aside(self->ahead));
+void faz_mesh_drop_ahead(faz_lobby *self) {
+    faz_aside_leave(close_aside(self->ahead));
     self->ahead = NULL;
 }
 
-void mesh_replace(faz_lobby *self, uint32_t place, const member *who) {
+void faz_mesh_replace(faz_lobby *self, uint32_t place, const member *who) {
     other *to = &self->other[place];
-    aside_leave(close_aside(to->line));
+    faz_aside_leave(close_aside(to->line));
     memset(to, 0, sizeof *to);
     self->table.member[place] = *who;
-    seen_note(&self->members, who->open);
-    lobby_tell(self, FAZ_LOBBY_COMES, place, who->name);
+    faz_seen_note(&self->members, who->open);
+    faz_lobby_tell(self, FAZ_LOBBY_COMES, place, who->name);
     if (self->has_lines)
         open_line(self, place);
 }
 
 static bool are_over(aside *const jobs[], int count) {
     for (int at = 0; at < count; at++)
-        if (jobs[at] != NULL && !aside_is_over(jobs[at]))
+        if (jobs[at] != NULL && !faz_aside_is_over(jobs[at]))
             return false;
     return true;
 }
 
 /* All at once. */
-void mesh_close(faz_lobby *self) {
+void faz_mesh_close(faz_lobby *self) {
     enum { ALL = FAZGROND_MACHINES + 1 };
     aside *jobs[ALL];
     for (int at = 0; at < FAZGROND_MACHINES; at++)
@@ -162,7 +162,7 @@ void mesh_close(faz_lobby *self) {
     for (int waited = 0; !are_over(jobs, ALL) && waited < LAST; waited++)
         faz_ice_wait();
     for (int at = 0; at < ALL; at++)
-        aside_leave(jobs[at]);
+        faz_aside_leave(jobs[at]);
 }
 
 /* ---- signals */
@@ -178,8 +178,8 @@ static void keep_early(faz_lobby *self, const broker_message *message) {
 /* Whether nobody has a place, or this machine doesn't hear who does. */
 static bool is_silent(const faz_lobby *self, uint32_t place) {
     faz_line_state state;
-    if (!mesh_has_line(self, place))
-        return mesh_is_vacant(self, place);
+    if (!faz_mesh_has_line(self, place))
+        return faz_mesh_is_vacant(self, place);
     faz_line_look(self->other[place].line, &state);
     return state.silence >= NOT_HEARD;
 }
@@ -187,30 +187,31 @@ static bool is_silent(const faz_lobby *self, uint32_t place) {
 /* Another machine says who is in a place now. */
 static void hear_news(faz_lobby *self, uint32_t from, const broker_message *message) {
     news came;
-    if (!self->table.lasts || !news_read(&came, &self->other[from].pair, message->bytes, message->length)
-        || came.counter <= self->other[from].news || came.place == from || !is_silent(self, came.place) || mesh_knows(self, came.who.open))
+    if (!self->table.lasts || !faz_news_read(&came, &self->other[from].pair, message->bytes, message->length)
+        || came.counter <= self->other[from].news || came.place == from
+        || !is_silent(self, came.place) || faz_mesh_knows(self, came.who.open))
         return;
     self->other[from].news = came.counter;
-    mesh_replace(self, came.place, &came.who);
+    faz_mesh_replace(self, came.place, &came.who);
 }
 
-void mesh_hear(faz_lobby *self, const broker_message *message) {
+void faz_mesh_hear(faz_lobby *self, const broker_message *message) {
     uint8_t inside[BROKER_MESSAGE];
     size_t length;
     uint32_t from = message->length > 1 ? message->bytes[1] : FAZGROND_NO_MACHINE;
     if (!self->has_lines)
         keep_early(self, message);
-    else if (mesh_has_line(self, from) && message->bytes[0] == NEWS)
+    else if (faz_mesh_has_line(self, from) && message->bytes[0] == NEWS)
         hear_news(self, from, message);
-    else if (mesh_has_line(self, from) && signal_read(inside, &length, &self->other[from].pair, message->bytes, message->length))
+    else if (faz_mesh_has_line(self, from) && faz_signal_read(inside, &length, &self->other[from].pair, message->bytes, message->length))
         faz_line_signalled(self->other[from].line, inside, length);
 }
 
 static void tell_signals(faz_lobby *self, other *to) {
     uint8_t bytes[FAZ_LINE_SIGNAL], message[BROKER_MESSAGE];
     size_t length;
-    while (broker_is_there(self->broker) && faz_line_signal(to->line, bytes, sizeof bytes, &length))
-        broker_say(self->broker, to->subject, NULL, message, signal_write(self->table.me, bytes, length, &to->pair, message));
+    while (faz_lobby_broker_is_there(self->broker) && faz_line_signal(to->line, bytes, sizeof bytes, &length))
+        faz_lobby_broker_say(self->broker, to->subject, NULL, message, faz_signal_write(self->table.me, bytes, length, &to->pair, message));
 }
 
 /* ---- a turn */
@@ -228,17 +229,17 @@ static void note_stage(faz_lobby *self, uint32_t machine) {
     of->was_up = of->was_up || state.stage == FAZ_LINE_UP;
     faz_lobby_what what = state.stage == FAZ_LINE_UP ? FAZ_LOBBY_UP : state.stage == FAZ_LINE_SILENT ? FAZ_LOBBY_SILENT
                         : FAZ_LOBBY_BLOCKED;
-    strcpy(lobby_tell(self, what, machine, self->table.member[machine].name)->text, WAYS[state.way]);
+    strcpy(faz_lobby_tell(self, what, machine, self->table.member[machine].name)->text, WAYS[state.way]);
 }
 
-void mesh_turn(faz_lobby *self) {
+void faz_mesh_turn(faz_lobby *self) {
     bool are_up = true, is_any_up = false;
-    if (!self->is_known || !lobby_has_addresses(self))
+    if (!self->is_known || !faz_lobby_has_addresses(self))
         return;
     if (!self->has_lines)
         open_lines(self);
     for (uint32_t machine = 0; machine < self->table.machines; machine++) {
-        if (!mesh_has_line(self, machine))
+        if (!faz_mesh_has_line(self, machine))
             continue;
         faz_line_turn(self->other[machine].line, self->now);
         tell_signals(self, &self->other[machine]);
@@ -246,21 +247,21 @@ void mesh_turn(faz_lobby *self) {
         are_up = are_up && self->other[machine].was_up;
         is_any_up = is_any_up || self->other[machine].was_up;
     }
-    bool is_enough = is_any_up && self->table.is_late && lobby_since(self, self->known_at) >= WAITED_FOR;
+    bool is_enough = is_any_up && self->table.is_late && faz_lobby_since(self, self->known_at) >= WAITED_FOR;
     self->is_ready = self->is_ready || (self->has_lines && (are_up || is_enough));
 }
 
 /* ---- what the game sends and receives */
 
 bool faz_lobby_send(faz_lobby *self, uint32_t machine, const uint8_t *bytes, size_t length) {
-    return mesh_has_line(self, machine) && faz_line_send(self->other[machine].line, bytes, length);
+    return faz_mesh_has_line(self, machine) && faz_line_send(self->other[machine].line, bytes, length);
 }
 
 /* Of all lines in turn, so that none is behind another. */
 bool faz_lobby_receive(faz_lobby *self, uint32_t *machine, uint8_t *out, size_t room, size_t *length) {
     for (uint32_t tried = 0; tried < self->table.machines; tried++) {
         self->heard = (self->heard + 1) % self->table.machines;
-        if (mesh_has_line(self, self->heard) && faz_line_receive(self->other[self->heard].line, out, room, length)) {
+        if (faz_mesh_has_line(self, self->heard) && faz_line_receive(self->other[self->heard].line, out, room, length)) {
             *machine = self->heard;
             return true;
         }
@@ -269,7 +270,7 @@ bool faz_lobby_receive(faz_lobby *self, uint32_t *machine, uint8_t *out, size_t 
 }
 
 bool faz_lobby_look(const faz_lobby *self, uint32_t machine, faz_line_state *state) {
-    if (!mesh_has_line(self, machine))
+    if (!faz_mesh_has_line(self, machine))
         return false;
     faz_line_look(self->other[machine].line, state);
     return true;

@@ -94,45 +94,45 @@ typedef struct answer {
 } answer;
 
 /* Behind what the host says there may be an offer: `more` is how many bytes of it there are, at the message's end. */
-size_t knock_write(const knock *self, message_kind kind, uint8_t out[BROKER_MESSAGE]);
-bool knock_read(knock *self, message_kind kind, const uint8_t *bytes, size_t length, size_t *more);
+size_t faz_knock_write(const knock *self, message_kind kind, uint8_t out[BROKER_MESSAGE]);
+bool faz_knock_read(knock *self, message_kind kind, const uint8_t *bytes, size_t length, size_t *more);
 
 /* Each writes a message of less than BROKER_MESSAGE bytes, and says how long it is. */
-size_t hello_write(const hello *self, const room *in, uint8_t out[BROKER_MESSAGE]);
-size_t offer_write(const offer *self, const room *in, uint8_t out[BROKER_MESSAGE]);
-size_t ask_write(const ask *self, const room *in, const pair *between, uint8_t out[BROKER_MESSAGE]);
-size_t answer_write(const answer *self, const pair *between, uint8_t out[BROKER_MESSAGE]);
+size_t faz_hello_write(const hello *self, const room *in, uint8_t out[BROKER_MESSAGE]);
+size_t faz_offer_write(const offer *self, const room *in, uint8_t out[BROKER_MESSAGE]);
+size_t faz_ask_write(const ask *self, const room *in, const pair *between, uint8_t out[BROKER_MESSAGE]);
+size_t faz_answer_write(const answer *self, const pair *between, uint8_t out[BROKER_MESSAGE]);
 /* Of a machine `from`: in a place there is somebody else. `counter` goes up. */
 typedef struct news {
     uint32_t counter, place;
     member who;
 } news;
 
-size_t news_write(uint32_t from, const news *self, const pair *between, uint8_t out[BROKER_MESSAGE]);
-bool news_read(news *self, const pair *between, const uint8_t *bytes, size_t length);
-size_t signal_write(uint32_t from, const uint8_t *bytes, size_t length, const pair *between, uint8_t out[BROKER_MESSAGE]);
+size_t faz_news_write(uint32_t from, const news *self, const pair *between, uint8_t out[BROKER_MESSAGE]);
+bool faz_news_read(news *self, const pair *between, const uint8_t *bytes, size_t length);
+size_t faz_signal_write(uint32_t from, const uint8_t *bytes, size_t length, const pair *between, uint8_t out[BROKER_MESSAGE]);
 
 /* Each reads one that begins with its kind. False: nobody made such a message who may. */
 /* Of another version nothing but that is read. */
-bool hello_read(hello *self, const room *in, const uint8_t *bytes, size_t length);
-bool offer_read(offer *self, const room *in, const uint8_t *bytes, size_t length);
+bool faz_hello_read(hello *self, const room *in, const uint8_t *bytes, size_t length);
+bool faz_offer_read(offer *self, const room *in, const uint8_t *bytes, size_t length);
 /* Whose it is, and then the rest, by the pair of the host and the one who asks. */
-bool ask_open(uint8_t open[KEY], const room *in, const uint8_t *bytes, size_t length);
-bool ask_read(ask *self, const room *in, const pair *between, const uint8_t *bytes, size_t length);
-bool answer_read(answer *self, const pair *between, const uint8_t *bytes, size_t length);
+bool faz_ask_open(uint8_t open[KEY], const room *in, const uint8_t *bytes, size_t length);
+bool faz_ask_read(ask *self, const room *in, const pair *between, const uint8_t *bytes, size_t length);
+bool faz_answer_read(answer *self, const pair *between, const uint8_t *bytes, size_t length);
 /* `out` has room for BROKER_MESSAGE bytes. */
-bool signal_read(uint8_t *out, size_t *size, const pair *between, const uint8_t *bytes, size_t length);
+bool faz_signal_read(uint8_t *out, size_t *size, const pair *between, const uint8_t *bytes, size_t length);
 
 /* The subject of an inbox, and of a room. */
-void inbox_subject(const uint8_t inbox[INBOX], char out[BROKER_SUBJECT]);
-void room_subject(const room *self, char out[BROKER_SUBJECT]);
+void faz_inbox_subject(const uint8_t inbox[INBOX], char out[BROKER_SUBJECT]);
+void faz_room_subject(const room *self, char out[BROKER_SUBJECT]);
 
 /* False: it is no inbox's. */
-bool inbox_read(const char *subject, uint8_t inbox[INBOX]);
+bool faz_inbox_read(const char *subject, uint8_t inbox[INBOX]);
 
 /* Whether it is one of version 1, which were 32 digits: who hears it is answered, and so told that the version is another one. */
-bool inbox_is_older(const char *subject);
+bool faz_inbox_is_older(const char *subject);
 
 /* Takes a name over, without what isn't printed. */
-void name_clean(char out[FAZ_LOBBY_NAME_ROOM], const char *name);
+void faz_name_clean(char out[FAZ_LOBBY_NAME_ROOM], const char *name);
 #endif

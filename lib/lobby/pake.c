@@ -105,7 +105,7 @@ static bool set_session(pake *self, bool is_host) {
     return set_credentials(self, is_host);
 }
 
-pake *pake_open(bool is_host, const char *name, const char *secret) {
+pake *faz_pake_open(bool is_host, const char *name, const char *secret) {
     pake *self = strlen(name) < NAME && strlen(secret) < NAME ? calloc(1, sizeof *self) : NULL;
     if (self == NULL)
         return NULL;
@@ -113,11 +113,11 @@ pake *pake_open(bool is_host, const char *name, const char *secret) {
     strcpy(self->secret, secret);
     if (set_session(self, is_host))
         return self;
-    pake_close(self);
+    faz_pake_close(self);
     return NULL;
 }
 
-pake_answer pake_turn(pake *self, const uint8_t *bytes, size_t length, uint8_t out[PAKE_BYTES], size_t *size) {
+pake_answer faz_pake_turn(pake *self, const uint8_t *bytes, size_t length, uint8_t out[PAKE_BYTES], size_t *size) {
     int status = GNUTLS_E_SUCCESS;
     self->in = bytes;
     self->in_left = length;
@@ -133,13 +133,13 @@ pake_answer pake_turn(pake *self, const uint8_t *bytes, size_t length, uint8_t o
     return self->is_done ? PAKE_DONE : PAKE_MORE;
 }
 
-void pake_key(pake *self, uint8_t key[PAKE_KEY]) {
+void faz_pake_key(pake *self, uint8_t key[PAKE_KEY]) {
     static const char label[] = "EXPORTER-fazgrond-code-1";
     if (!self->is_done || gnutls_prf_rfc5705(self->session, sizeof label - 1, label, 0, NULL, PAKE_KEY, (char *)key) != 0)
         gnutls_rnd(GNUTLS_RND_KEY, key, PAKE_KEY);
 }
 
-void pake_close(pake *self) {
+void faz_pake_close(pake *self) {
     if (self == NULL)
         return;
     if (self->session != NULL)

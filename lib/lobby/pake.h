@@ -18,14 +18,14 @@ typedef enum pake_answer {
 } pake_answer;
 
 /* `name` says of which secret it is: both have the same. Null: there is no memory. */
-pake *pake_open(bool is_host, const char *name, const char *secret);
+pake *faz_pake_open(bool is_host, const char *name, const char *secret);
 
 /* Takes what the other one said, if there is any, and writes what is to be said next, less than PAKE_BYTES bytes: maybe none. */
-pake_answer pake_turn(pake *self, const uint8_t *bytes, size_t length, uint8_t out[PAKE_BYTES], size_t *size);
+pake_answer faz_pake_turn(pake *self, const uint8_t *bytes, size_t length, uint8_t out[PAKE_BYTES], size_t *size);
 
 /* The key, once it is done. */
-void pake_key(pake *self, uint8_t key[PAKE_KEY]);
+void faz_pake_key(pake *self, uint8_t key[PAKE_KEY]);
 
 /* Null is none. */
-void pake_close(pake *self);
+void faz_pake_close(pake *self);
 #endif

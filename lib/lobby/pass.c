@@ -57,13 +57,13 @@ static bool read_signs(const char *text, size_t length, uint8_t *bytes, size_t c
     return all[count] == 0 && (all[count - 2] | all[count - 1] << 8) == (int)sum;
 }
 
-void nkey_write(nkey_kind kind, const uint8_t open[NKEY], char out[NKEY_TEXT]) {
+void faz_nkey_write(nkey_kind kind, const uint8_t open[NKEY], char out[NKEY_TEXT]) {
     uint8_t bytes[KEY_BYTES] = {(uint8_t)kind};
     memcpy(bytes + 1, open, NKEY);
     write_signs(bytes, sizeof bytes, out);
 }
 
-bool nkey_read(nkey_kind kind, const char *text, size_t length, uint8_t open[NKEY]) {
+bool faz_nkey_read(nkey_kind kind, const char *text, size_t length, uint8_t open[NKEY]) {
     uint8_t bytes[KEY_BYTES];
     if (!read_signs(text, length, bytes, sizeof bytes) || bytes[0] != (uint8_t)kind)
         return false;
@@ -76,7 +76,7 @@ static void seed_head(nkey_kind kind, uint8_t head[2]) {
     head[1] = (uint8_t)((unsigned)kind << (8 - KINDS_BITS));
 }
 
-void nkey_write_seed(const nkey *self, char out[SEED_TEXT]) {
+void faz_nkey_write_seed(const nkey *self, char out[SEED_TEXT]) {
     uint8_t bytes[SEED_BYTES];
     seed_head(self->kind, bytes);
     memcpy(bytes + 2, self->secret, NKEY);
@@ -84,24 +84,24 @@ void nkey_write_seed(const nkey *self, char out[SEED_TEXT]) {
     sodium_memzero(bytes, sizeof bytes);
 }
 
-bool nkey_read_seed(nkey *self, nkey_kind kind, const char *text, size_t length) {
+bool faz_nkey_read_seed(nkey *self, nkey_kind kind, const char *text, size_t length) {
     uint8_t bytes[SEED_BYTES], head[2];
     seed_head(kind, head);
     bool is_one = read_signs(text, length, bytes, sizeof bytes) && memcmp(bytes, head, sizeof head) == 0;
     if (is_one)
-        nkey_of_seed(self, kind, bytes + 2);
+        faz_nkey_of_seed(self, kind, bytes + 2);
     sodium_memzero(bytes, sizeof bytes);
     return is_one;
 }
 
 /* ---- keys */
 
-void nkey_of_seed(nkey *self, nkey_kind kind, const uint8_t seed[NKEY]) {
+void faz_nkey_of_seed(nkey *self, nkey_kind kind, const uint8_t seed[NKEY]) {
     self->kind = kind;
     crypto_sign_seed_keypair(self->open, self->secret, seed);
 }
 
-void nkey_draw(nkey *self, nkey_kind kind) {
+void faz_nkey_draw(nkey *self, nkey_kind kind) {
     self->kind = kind;
     crypto_sign_keypair(self->open, self->secret);
 }
@@ -125,7 +125,7 @@ static bool add_dot(char *out, size_t room) {
     return true;
 }
 
-bool token_sign(const nkey *signer, const char *claims, char *out, size_t room) {
+bool faz_token_sign(const nkey *signer, const char *claims, char *out, size_t room) {
     static const char head[] = "{\"typ\":\"JWT\",\"alg\":\"ed25519-nkey\"}";
     uint8_t signature[crypto_sign_BYTES];
     *out = 0;
@@ -137,24 +137,24 @@ bool token_sign(const nkey *signer, const char *claims, char *out, size_t room) 
 
 /* ---- the pass */
 
-void pass_write(const pass *self, char out[PASS_TEXT]) {
-    nkey_write_seed(&self->signer, out);
-    nkey_write(NKEY_ACCOUNT, self->account, out + strlen(out));
+void faz_pass_write(const pass *self, char out[PASS_TEXT]) {
+    faz_nkey_write_seed(&self->signer, out);
+    faz_nkey_write(NKEY_ACCOUNT, self->account, out + strlen(out));
 }
 
-bool pass_read(pass *self, const char *text, size_t length) {
+bool faz_pass_read(pass *self, const char *text, size_t length) {
     size_t seed = SEED_TEXT - 1;
-    return length == PASS_TEXT - 1 && nkey_read_seed(&self->signer, NKEY_ACCOUNT, text, seed)
-        && nkey_read(NKEY_ACCOUNT, text + seed, length - seed, self->account);
+    return length == PASS_TEXT - 1 && faz_nkey_read_seed(&self->signer, NKEY_ACCOUNT, text, seed)
+        && faz_nkey_read(NKEY_ACCOUNT, text + seed, length - seed, self->account);
 }
 
 /* It says nothing of what the user may: that says the broker, of all who have the pass. */
-void pass_token(const pass *self, const nkey *user, char out[TOKEN_TEXT]) {
+void faz_pass_token(const pass *self, const nkey *user, char out[TOKEN_TEXT]) {
     char signer[NKEY_TEXT], account[NKEY_TEXT], who[NKEY_TEXT], claims[TOKEN_TEXT];
-    nkey_write(NKEY_ACCOUNT, self->signer.open, signer);
-    nkey_write(NKEY_ACCOUNT, self->account, account);
-    nkey_write(NKEY_USER, user->open, who);
+    faz_nkey_write(NKEY_ACCOUNT, self->signer.open, signer);
+    faz_nkey_write(NKEY_ACCOUNT, self->account, account);
+    faz_nkey_write(NKEY_USER, user->open, who);
     snprintf(claims, sizeof claims, "{\"iss\":\"%s\",\"sub\":\"%s\",\"nats\":{\"issuer_account\":\"%s\",\"type\":\"user\",\"version\":2}}",
              signer, who, account);
-    token_sign(&self->signer, claims, out, TOKEN_TEXT);
+    faz_token_sign(&self->signer, claims, out, TOKEN_TEXT);
 }

@@ -25,18 +25,18 @@ typedef struct nkey {
     uint8_t open[NKEY], secret[NKEY_SECRET];
 } nkey;
 
-void nkey_draw(nkey *self, nkey_kind kind);
-void nkey_of_seed(nkey *self, nkey_kind kind, const uint8_t seed[NKEY]);
+void faz_nkey_draw(nkey *self, nkey_kind kind);
+void faz_nkey_of_seed(nkey *self, nkey_kind kind, const uint8_t seed[NKEY]);
 
-void nkey_write(nkey_kind kind, const uint8_t open[NKEY], char out[NKEY_TEXT]);
-void nkey_write_seed(const nkey *self, char out[SEED_TEXT]);
+void faz_nkey_write(nkey_kind kind, const uint8_t open[NKEY], char out[NKEY_TEXT]);
+void faz_nkey_write_seed(const nkey *self, char out[SEED_TEXT]);
 
 /* False: it is none of this kind, or has a slip of the pen in it. */
-bool nkey_read(nkey_kind kind, const char *text, size_t length, uint8_t open[NKEY]);
-bool nkey_read_seed(nkey *self, nkey_kind kind, const char *text, size_t length);
+bool faz_nkey_read(nkey_kind kind, const char *text, size_t length, uint8_t open[NKEY]);
+bool faz_nkey_read_seed(nkey *self, nkey_kind kind, const char *text, size_t length);
 
 /* Claims, which are JSON, with a signature behind them: "HEAD.CLAIMS.SIGNATURE". False: there is no room. */
-bool token_sign(const nkey *signer, const char *claims, char *out, size_t room);
+bool faz_token_sign(const nkey *signer, const char *claims, char *out, size_t room);
 
 /* The key that signs for players, and the account that they are of. */
 typedef struct pass {
@@ -45,9 +45,9 @@ typedef struct pass {
 } pass;
 
 /* The seed of the one, and the other. */
-void pass_write(const pass *self, char out[PASS_TEXT]);
-bool pass_read(pass *self, const char *text, size_t length);
+void faz_pass_write(const pass *self, char out[PASS_TEXT]);
+bool faz_pass_read(pass *self, const char *text, size_t length);
 
 /* What a user shows who has the pass. */
-void pass_token(const pass *self, const nkey *user, char out[TOKEN_TEXT]);
+void faz_pass_token(const pass *self, const nkey *user, char out[TOKEN_TEXT]);
 #endif

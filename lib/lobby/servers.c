@@ -46,7 +46,7 @@ static bool copy_relays(faz_lobby *self, const faz_line_relay *relays, uint32_t 
     return true;
 }
 
-const char *lobby_copy_servers(faz_lobby *self, const faz_lobby_settings *settings) {
+const char *faz_lobby_copy_servers(faz_lobby *self, const faz_lobby_settings *settings) {
     if (settings->stun != NULL && !fits(settings->stun, WORD_TEXT))
         return "the STUN server's name is too long";
     if (settings->stun != NULL)
@@ -142,7 +142,7 @@ static void take_addresses(faz_lobby *self) {
     const servers *of = &self->servers;
     self->line.stun = of->stun_at.text[0][0] != 0 ? choose(&of->stun_at) : NULL;
     if (take_relays(self) < self->named_count || (of->stun[0] != 0 && self->line.stun == NULL))
-        strcpy(lobby_tell(self, FAZ_LOBBY_AWAY, FAZGROND_NO_MACHINE, "")->text,
+        strcpy(faz_lobby_tell(self, FAZ_LOBBY_AWAY, FAZGROND_NO_MACHINE, "")->text,
                "a STUN server or relay has no address: its name isn't known");
 }
 
@@ -154,7 +154,7 @@ static bool begin(faz_lobby *self) {
     if (self->looked_up == NULL)
         return false;
     *self->looked_up = self->servers;
-    self->looking = aside_begin(look, drop, self->looked_up);
+    self->looking = faz_aside_begin(look, drop, self->looked_up);
     if (self->looking == NULL)
         free(self->looked_up);
     return self->looking != NULL;
@@ -172,7 +172,7 @@ static bool renew_relays(faz_lobby *self, const faz_line_relay *relays, uint32_t
     return true;
 }
 
-void lobby_take_servers(faz_lobby *self, const door_answer *answer) {
+void faz_lobby_take_servers(faz_lobby *self, const door_answer *answer) {
     faz_line_relay relays[FAZ_LINE_RELAYS];
     for (uint32_t at = 0; at < answer->relays; at++)
         relays[at] = (faz_line_relay){answer->relay[at].address, answer->relay[at].port, answer->user, answer->password,
@@ -183,26 +183,26 @@ void lobby_take_servers(faz_lobby *self, const door_answer *answer) {
     }
     if (strcmp(self->servers.stun, answer->stun) != 0)
         self->servers.stun_at.text[0][0] = 0;
-    lobby_copy(self->servers.stun, sizeof self->servers.stun, answer->stun);
+    faz_lobby_copy(self->servers.stun, sizeof self->servers.stun, answer->stun);
     self->line.stun_port = answer->stun_port;
     copy_relays(self, relays, answer->relays);
     self->has_addresses = false;
-    mesh_drop_ahead(self);
+    faz_mesh_drop_ahead(self);
 }
 
-bool lobby_has_addresses(faz_lobby *self) {
+bool faz_lobby_has_addresses(faz_lobby *self) {
     if (self->has_addresses)
         return true;
-    if (!asking_is_over(self))
+    if (!faz_asking_is_over(self))
         return false;
     if (self->looking == NULL && begin(self))
         return false;
-    if (self->looking != NULL && !aside_is_over(self->looking))
+    if (self->looking != NULL && !faz_aside_is_over(self->looking))
         return false;
     if (self->looking != NULL) {
         bool are_all = take_found(&self->servers, self->looked_up);
         free(self->looked_up);
-        aside_take(self->looking);
+        faz_aside_take(self->looking);
         self->looking = NULL;
         if (!are_all)
             return false;

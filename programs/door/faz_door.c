@@ -238,7 +238,7 @@ static void answer(natsConnection *broker, natsMsg *message) {
     networks from;
     const char *reply = natsMsg_GetReply(message);
     const uint8_t *bytes = (const uint8_t *)natsMsg_GetData(message);
-    if (reply == NULL || !door_request_read(&asked, bytes, (size_t)natsMsg_GetDataLength(message)))
+    if (reply == NULL || !faz_door_request_read(&asked, bytes, (size_t)natsMsg_GetDataLength(message)))
         return;
     int number = asked.kind == DOOR_HOSTS ? plate_of(&asked) : -1;
     bool keeps = number >= 0 && is_taken(number);
@@ -252,7 +252,7 @@ static void answer(natsConnection *broker, natsMsg *message) {
     if (!keeps && answer.status != DOOR_TOO_MANY)
         printf("%s asks %c %s: %d\n", address, asked.kind, answer.plate, (int)answer.status);
     fflush(stdout);
-    size_t length = door_answer_write(&answer, asked.open, out);
+    size_t length = faz_door_answer_write(&answer, asked.open, out);
     if (length > 0)
         natsConnection_Publish(broker, reply, out, (int)length);
 }

@@ -52,7 +52,7 @@ static int fail(const char *why, const char *of) {
 /* ---- claims */
 
 static const char *text_of(nkey_kind kind, const uint8_t open[NKEY], char out[NKEY_TEXT]) {
-    nkey_write(kind, open, out);
+    faz_nkey_write(kind, open, out);
     return out;
 }
 
@@ -61,7 +61,7 @@ static void sign(const nkey *signer, const char *name, const char *whose, const 
     char claims[CLAIMS], issuer[NKEY_TEXT];
     snprintf(claims, sizeof claims, "{\"iss\":\"%s\",\"name\":\"%s\",\"sub\":\"%s\",\"nats\":{%s,\"version\":2}}",
              text_of(signer->kind, signer->open, issuer), name, whose, more);
-    token_sign(signer, claims, out, TEXT);
+    faz_token_sign(signer, claims, out, TEXT);
 }
 
 static void write_operator(FILE *to) {
@@ -97,7 +97,7 @@ static void write_broker(FILE *to) {
 static void write_creds(FILE *to) {
     char user[NKEY_TEXT], token[TEXT], seed[SEED_TEXT];
     sign(&self.door, "door", text_of(NKEY_USER, self.door_user.open, user), DOOR_RIGHTS ",\"type\":\"user\"", token);
-    nkey_write_seed(&self.door_user, seed);
+    faz_nkey_write_seed(&self.door_user, seed);
     fprintf(to, "-----BEGIN NATS USER JWT-----\n%s\n------END NATS USER JWT------\n\n", token);
     fprintf(to, "-----BEGIN USER NKEY SEED-----\n%s\n------END USER NKEY SEED------\n", seed);
     sodium_memzero(seed, sizeof seed);
@@ -105,7 +105,7 @@ static void write_creds(FILE *to) {
 
 static void write_pass(FILE *to) {
     char text[PASS_TEXT];
-    pass_write(&self.pass, text);
+    faz_pass_write(&self.pass, text);
     fprintf(to, "%s\n", text);
 }
 
@@ -150,16 +150,16 @@ static bool write_file(const file *one) {
 /* The keys of the operator and of its accounts sign once, here, and are forgotten then. */
 static bool draw(const char *text) {
     nkey players, system;
-    nkey_draw(&self.operator, NKEY_OPERATOR);
-    nkey_draw(&self.door, NKEY_ACCOUNT);
-    nkey_draw(&self.door_user, NKEY_USER);
-    nkey_draw(&system, NKEY_ACCOUNT);
+    faz_nkey_draw(&self.operator, NKEY_OPERATOR);
+    faz_nkey_draw(&self.door, NKEY_ACCOUNT);
+    faz_nkey_draw(&self.door_user, NKEY_USER);
+    faz_nkey_draw(&system, NKEY_ACCOUNT);
     memcpy(self.system, system.open, NKEY);
     if (text != NULL)
-        return pass_read(&self.pass, text, strlen(text));
-    nkey_draw(&players, NKEY_ACCOUNT);
+        return faz_pass_read(&self.pass, text, strlen(text));
+    faz_nkey_draw(&players, NKEY_ACCOUNT);
     memcpy(self.pass.account, players.open, NKEY);
-    nkey_draw(&self.pass.signer, NKEY_ACCOUNT);
+    faz_nkey_draw(&self.pass.signer, NKEY_ACCOUNT);
     sodium_memzero(&players, sizeof players);
     return true;
 }

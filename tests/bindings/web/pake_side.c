@@ -23,18 +23,18 @@ int main(int count, char **words) {
     static const char *const states[] = {"more", "done", "wrong"};
     char line[2 * PAKE_BYTES + 2];
     uint8_t came[PAKE_BYTES], said[PAKE_BYTES], key[PAKE_KEY];
-    pake *self = count == 4 ? pake_open(strcmp(words[1], "host") == 0, words[2], words[3]) : NULL;
+    pake *self = count == 4 ? faz_pake_open(strcmp(words[1], "host") == 0, words[2], words[3]) : NULL;
     while (self != NULL && fgets(line, sizeof line, stdin) != NULL) {
         size_t size;
-        pake_answer now = pake_turn(self, came, read_digits(line, came), said, &size);
+        pake_answer now = faz_pake_turn(self, came, read_digits(line, came), said, &size);
         printf("%s", states[now]);
         write_digits(said, size);
         if (now == PAKE_DONE)
-            pake_key(self, key);
+            faz_pake_key(self, key);
         write_digits(key, now == PAKE_DONE ? PAKE_KEY : 0);
         putchar('\n');
         fflush(stdout);
     }
-    pake_close(self);
+    faz_pake_close(self);
     return 0;
 }

@@ -34,10 +34,10 @@ static void is(int line, const char *what, uint64_t found, uint64_t due) {
 
 static void open_two(seal *one, seal *two) {
     uint8_t open[2][SEAL_KEY], secret[2][SEAL_KEY];
-    seal_draw(open[0], secret[0]);
-    seal_draw(open[1], secret[1]);
-    IS(seal_open(one, true, open[0], secret[0], open[1]), true);
-    IS(seal_open(two, false, open[1], secret[1], open[0]), true);
+    faz_line_seal_draw(open[0], secret[0]);
+    faz_line_seal_draw(open[1], secret[1]);
+    IS(faz_line_seal_open(one, true, open[0], secret[0], open[1]), true);
+    IS(faz_line_seal_open(two, false, open[1], secret[1], open[0]), true);
 }
 
 static void of_pairs(void) {
@@ -49,8 +49,8 @@ static void of_pairs(void) {
     IS(memcmp(one.ours, two.theirs, SEAL_KEY), 0);
     IS(memcmp(one.ours, two.ours, SEAL_KEY) == 0, false);
     uint8_t zero[SEAL_KEY] = {0}, open[SEAL_KEY], secret[SEAL_KEY];
-    seal_draw(open, secret);
-    IS(seal_open(&four, true, open, secret, zero), false);
+    faz_line_seal_draw(open, secret);
+    IS(faz_line_seal_open(&four, true, open, secret, zero), false);
 }
 
 static void as_another_does(const char *key, const char *sealed) {
@@ -59,7 +59,7 @@ static void as_another_does(const char *key, const char *sealed) {
     char hex[129];
     sodium_hex2bin(one.ours, SEAL_KEY, key, strlen(key), NULL, NULL, NULL);
     one.sent = 0x0102030405;
-    size_t length = seal_put(&one, out, (const uint8_t *)"a play", 6);
+    size_t length = faz_line_seal_put(&one, out, (const uint8_t *)"a play", 6);
     sodium_bin2hex(hex, sizeof hex, out, length);
     if (strcmp(hex, sealed) != 0) {
         printf("sealed %s\nnot    %s\n", hex, sealed);
@@ -74,22 +74,22 @@ static void of_forgers(void) {
     for (int n = 0; n < 400; n++) {
         size_t length = (size_t)n % 90;
         randombytes_buf(bytes, length);
-        size_t size = seal_put(&one, sealed, bytes, length);
+        size_t size = faz_line_seal_put(&one, sealed, bytes, length);
         IS(size, length + 24);
         IS(sealed[0], 0xf1);
         for (size_t bit = 0; bit < 8 * size; bit += 1 + (size_t)(draw() % 40)) {
             memcpy(broken, sealed, size);
             broken[bit / 8] ^= (uint8_t)(1 << (bit % 8));
             seal before = two;
-            IS(seal_take(&two, out, broken, size) == SEAL_OK, false);
+            IS(faz_line_seal_take(&two, out, broken, size) == SEAL_OK, false);
             IS(memcmp(&before, &two, sizeof two), 0); /* nor is a counter of its own taken from it */
         }
         for (size_t shorter = 0; shorter < size; shorter += 7)
-            IS(seal_take(&two, out, sealed, shorter) == SEAL_OK, false);
-        IS(seal_take(&one, out, sealed, size) == SEAL_OK, false); /* nobody takes its own */
-        IS(seal_take(&two, out, sealed, size), SEAL_OK);
+            IS(faz_line_seal_take(&two, out, sealed, shorter) == SEAL_OK, false);
+        IS(faz_line_seal_take(&one, out, sealed, size) == SEAL_OK, false); /* nobody takes its own */
+        IS(faz_line_seal_take(&two, out, sealed, size), SEAL_OK);
         IS(memcmp(out, bytes, length), 0);
-        IS(seal_take(&two, out, sealed, size), SEAL_AGAIN);
+        IS(faz_line_seal_take(&two, out, sealed, size), SEAL_AGAIN);
     }
 }
 
@@ -103,7 +103,7 @@ static void of_orders(void) {
     int came[MANY] = {0}, taken = 0;
     open_two(&one, &two);
     for (uint32_t n = 0; n < MANY; n++)
-        IS(seal_put(&one, sealed[n], (const uint8_t *)&n, sizeof n), 28);
+        IS(faz_line_seal_put(&one, sealed[n], (const uint8_t *)&n, sizeof n), 28);
     for (int n = 0; n < 3 * MANY; n++)
         order[n] = n % MANY;
     for (int n = 3 * MANY - 1; n > 0; n--) {
@@ -113,7 +113,7 @@ static void of_orders(void) {
     }
     for (int n = 0; n < 3 * MANY; n++) {
         bool is_first = came[order[n]]++ == 0;
-        IS(seal_take(&two, out, sealed[order[n]], 28), is_first ? SEAL_OK : SEAL_AGAIN);
+        IS(faz_line_seal_take(&two, out, sealed[order[n]], 28), is_first ? SEAL_OK : SEAL_AGAIN);
         taken += is_first;
     }
     IS(taken, MANY);
@@ -123,18 +123,18 @@ static void of_notes(void) {
     seal one, two;
     uint8_t note[200], again[200], out[200], text[] = "c candidate";
     open_two(&one, &two);
-    size_t length = seal_note(&one, note, text, sizeof text);
+    size_t length = faz_line_seal_note(&one, note, text, sizeof text);
     IS(length, sizeof text + NOTE_OVERHEAD);
-    IS(seal_read(&two, out, note, length), true);
+    IS(faz_line_seal_read(&two, out, note, length), true);
     IS(memcmp(out, text, sizeof text), 0);
-    IS(seal_read(&one, out, note, length), false);
-    IS(seal_note(&one, again, text, sizeof text), length);
+    IS(faz_line_seal_read(&one, out, note, length), false);
+    IS(faz_line_seal_note(&one, again, text, sizeof text), length);
     IS(memcmp(note, again, length) == 0, false);
     for (size_t at = 0; at < length; at++) {
         note[at] ^= 1;
-        IS(seal_read(&two, out, note, length), false);
+        IS(faz_line_seal_read(&two, out, note, length), false);
         note[at] ^= 1;
-        IS(seal_read(&two, out, note, at), false);
+        IS(faz_line_seal_read(&two, out, note, at), false);
     }
 }
 
@@ -143,9 +143,9 @@ static void of_counters(void) {
     uint8_t sealed[40], out[40];
     open_two(&one, &two);
     one.sent = (UINT64_C(1) << 56) - 1;
-    IS(seal_put(&one, sealed, NULL, 0), 24);
-    IS(seal_take(&two, out, sealed, 24), SEAL_OK);
-    IS(seal_put(&one, sealed, NULL, 0), 0);
+    IS(faz_line_seal_put(&one, sealed, NULL, 0), 24);
+    IS(faz_line_seal_take(&two, out, sealed, 24), SEAL_OK);
+    IS(faz_line_seal_put(&one, sealed, NULL, 0), 0);
 }
 
 /* ---- what it costs */
@@ -163,13 +163,13 @@ static void costs(size_t length) {
     open_two(&one, &two);
     double begun = micros();
     for (size_t n = 0; n < MANY; n++)
-        seal_put(&one, sealed + n * ROOM, bytes, length);
+        faz_line_seal_put(&one, sealed + n * ROOM, bytes, length);
     double put = micros();
     for (size_t n = 0; n < MANY; n++)
-        IS(seal_take(&two, out, sealed + n * ROOM, length + SEAL_OVERHEAD), SEAL_OK);
+        IS(faz_line_seal_take(&two, out, sealed + n * ROOM, length + SEAL_OVERHEAD), SEAL_OK);
     double taken = micros();
     for (size_t n = 0; n < MANY; n++)
-        IS(seal_take(&two, out, sealed + n * ROOM, length + SEAL_OVERHEAD) == SEAL_OK, false);
+        IS(faz_line_seal_take(&two, out, sealed + n * ROOM, length + SEAL_OVERHEAD) == SEAL_OK, false);
     double again = micros();
     printf("%zu bytes: %d more, %.2f us to seal, %.2f to open, %.3f to refuse one that came before\n", length, SEAL_OVERHEAD,
            (put - begun) / MANY, (taken - put) / MANY, (again - taken) / MANY);

@@ -78,7 +78,7 @@ static void tell(const faz_line_settings *how, char told[ROOM]) {
     size_t length;
     faz_line_draw(&ours);
     faz_line_draw(&theirs);
-    seal_open(&other, false, theirs.open, theirs.secret, ours.open);
+    faz_line_seal_open(&other, false, theirs.open, theirs.secret, ours.open);
     settings.keys = &ours;
     settings.their = theirs.open;
     settings.other = 1;
@@ -88,7 +88,7 @@ static void tell(const faz_line_settings *how, char told[ROOM]) {
     for (uint32_t now = 0; line != NULL && now < MILLISECONDS && strstr(told, "\ne") == NULL; now++) {
         faz_line_turn(line, now);
         while (faz_line_signal(line, bytes, sizeof bytes, &length)) {
-            check(seal_read(&other, (uint8_t *)inside, bytes, length), "a signal is read", "");
+            check(faz_line_seal_read(&other, (uint8_t *)inside, bytes, length), "a signal is read", "");
             for (char *at = inside + 4; at < inside + length - NOTE_OVERHEAD; at += strlen(at) + 1)
                 strcat(strcat(told, at), "\n");
         }

@@ -203,7 +203,8 @@ static void test_stranger(void) {
     say_junk();
     run(300);
     for (int at = 0; at < 3; at++)
-        check(self.told[at][FAZ_LOBBY_FULL] == 1 && self.told[at][FAZ_LOBBY_UP] == 2 && faz_lobby_stage_of(self.lobby[at]) == FAZ_LOBBY_READY,
+        check(self.told[at][FAZ_LOBBY_FULL] == 1 && self.told[at][FAZ_LOBBY_UP] == 2
+                  && faz_lobby_stage_of(self.lobby[at]) == FAZ_LOBBY_READY,
               "the match goes on among strangers");
     check(self.told[0][FAZ_LOBBY_JOINED] == 2, "nobody else joined");
     close_all();
@@ -213,8 +214,8 @@ static void test_stranger(void) {
 static void test_hidden(void) {
     room in;
     uint8_t code[CODE_BYTES];
-    check(self.count > 10 && code_read(self.code, code), "something was heard");
-    room_of(&in, code);
+    check(self.count > 10 && faz_code_read(self.code, code), "something was heard");
+    faz_room_of(&in, code);
     for (size_t at = 0; at < self.count; at++) {
         const char *bytes = natsMsg_GetData(self.kept[at]);
         int length = natsMsg_GetDataLength(self.kept[at]);
@@ -240,7 +241,7 @@ static void test_elsewhere(void) {
     snprintf(part, sizeof part, "%.20s", self.nobody);
     open_host(2, false);
     forget();
-    size_t length = hello_write(&text, &self.lobby[0]->room, message);
+    size_t length = faz_hello_write(&text, &self.lobby[0]->room, message);
     for (size_t at = 0; at < sizeof places / sizeof *places; at++)
         say(self.lobby[0]->room_name, places[at], message, length);
     say(self.lobby[0]->room_name, NULL, message, length);
@@ -259,7 +260,7 @@ static void test_elsewhere(void) {
 static bool is_offer(const natsMsg *message, const char *to, const room *in) {
     offer came;
     return strcmp(natsMsg_GetSubject(message), to) == 0
-        && offer_read(&came, in, (const uint8_t *)natsMsg_GetData(message), (size_t)natsMsg_GetDataLength(message))
+        && faz_offer_read(&came, in, (const uint8_t *)natsMsg_GetData(message), (size_t)natsMsg_GetDataLength(message))
         && came.version == LOBBY_VERSION;
 }
 
@@ -274,13 +275,13 @@ static void test_older(void) {
     open_host(2, false);
     forget();
     const room *in = &self.lobby[0]->room;
-    say(self.lobby[0]->room_name, inbox, message, hello_write(&text, in, message));
+    say(self.lobby[0]->room_name, inbox, message, faz_hello_write(&text, in, message));
     run(100);
     hear();
     check(self.count == 2 && is_offer(self.kept[1], inbox, in), "an older friend is offered this version");
     crypto_kx_keypair(asks.open, secret);
-    pair_of(&between, in, asks.open, secret, self.lobby[0]->keys.open);
-    say(self.lobby[0]->inbox_name, inbox, message, ask_write(&asks, in, &between, message));
+    faz_pair_of(&between, in, asks.open, secret, self.lobby[0]->keys.open);
+    say(self.lobby[0]->inbox_name, inbox, message, faz_ask_write(&asks, in, &between, message));
     run(100);
     check(self.told[0][FAZ_LOBBY_JOINED] == 0, "an older friend has a seat");
     close_all();
@@ -295,10 +296,10 @@ static void test_false_host(void) {
     open_host(2, false);
     open_friend(1);
     const room *in = &self.lobby[0]->room;
-    host_draw(lie.host, secret);
+    faz_host_draw(lie.host, secret);
     randombytes_buf(lie.speaks, KEY);
-    host_vouch(lie.proof, secret, lie.speaks);
-    size_t length = offer_write(&lie, in, message);
+    faz_host_vouch(lie.proof, secret, lie.speaks);
+    size_t length = faz_offer_write(&lie, in, message);
     faz_lobby_turn(self.lobby[1], now());
     for (int times = 0; times < 50; times++) {
         say(self.lobby[1]->inbox_name, NULL, message, length);
@@ -307,7 +308,7 @@ static void test_false_host(void) {
     }
     check(self.lobby[1]->joining.stage == SAYS_HELLO, "another host's key is none of this code");
     memcpy(lie.host, self.lobby[0]->hosting.open, KEY);
-    length = offer_write(&lie, in, message);
+    length = faz_offer_write(&lie, in, message);
     say(self.lobby[1]->inbox_name, NULL, message, length);
     natsConnection_FlushTimeout(self.stranger, 1000);
     for (int times = 0; times < 50; times++) {
@@ -331,10 +332,10 @@ static void come_and_leave(int many) {
         pair between;
         ask text = {.digest = 8, .here = 1, .name = "crowd"};
         crypto_kx_keypair(text.open, secret);
-        pair_of(&between, in, text.open, secret, self.lobby[0]->keys.open);
+        faz_pair_of(&between, in, text.open, secret, self.lobby[0]->keys.open);
         for (text.counter = 1; text.counter <= 2; text.counter++) {
             text.leaves = text.counter == 2;
-            say(self.lobby[0]->room_name, self.nobody, message, ask_write(&text, in, &between, message));
+            say(self.lobby[0]->room_name, self.nobody, message, faz_ask_write(&text, in, &between, message));
         }
         if (one % 16 == 0)
             run(5);
@@ -401,8 +402,8 @@ static void test_crowd(void) {
         pair between;
         ask text = {.counter = 1, .digest = 7, .here = 1, .name = "crowd"};
         crypto_kx_keypair(text.open, secret);
-        pair_of(&between, in, text.open, secret, self.lobby[0]->keys.open);
-        say(self.lobby[0]->room_name, self.nobody, message, ask_write(&text, in, &between, message));
+        faz_pair_of(&between, in, text.open, secret, self.lobby[0]->keys.open);
+        say(self.lobby[0]->room_name, self.nobody, message, faz_ask_write(&text, in, &between, message));
         if (one % 32 == 0)
             run(5);
     }
@@ -437,7 +438,7 @@ static void test_refusals(void) {
     open_friend(1);
     run(300);
     check(faz_lobby_stage_of(self.lobby[1]) == FAZ_LOBBY_MEETING, "somebody hears, and says nothing");
-    say(self.lobby[1]->inbox_name, NULL, message, offer_write(&newer, &in, message));
+    say(self.lobby[1]->inbox_name, NULL, message, faz_offer_write(&newer, &in, message));
     check(comes_to(1, FAZ_LOBBY_OVER) && self.last[1].why == FAZ_LOBBY_OTHER_LIBRARY, "another version");
     close_one(1);
     open_friend(1);
@@ -530,7 +531,7 @@ static void test_false_news(void) {
     crypto_kx_keypair(lie.who.open, secret);
     for (lie.place = 0; lie.place < 9; lie.place++)
         for (uint32_t from = 0; from < 4; from++) {
-            size_t length = news_write(from, &lie, &self.lobby[1]->other[0].pair, message);
+            size_t length = faz_news_write(from, &lie, &self.lobby[1]->other[0].pair, message);
             say(self.lobby[0]->inbox_name, NULL, message, length);
             say(self.lobby[2]->inbox_name, NULL, message, length);
         }
@@ -562,7 +563,7 @@ static void tell_news(uint32_t counter, uint32_t place, const uint8_t open[KEY])
     uint8_t message[BROKER_MESSAGE];
     news lie = {.counter = counter, .place = place, .who = {.name = "liar"}};
     memcpy(lie.who.open, open, KEY);
-    say(self.lobby[0]->inbox_name, NULL, message, news_write(1, &lie, &self.lobby[1]->other[0].pair, message));
+    say(self.lobby[0]->inbox_name, NULL, message, faz_news_write(1, &lie, &self.lobby[1]->other[0].pair, message));
     natsConnection_FlushTimeout(self.stranger, 1000);
     run(100);
 }
@@ -582,8 +583,8 @@ static void ask_anew(int from, int to, const char *name) {
     const room *in = &self.lobby[to]->later;
     strcpy(text.name, name);
     memcpy(text.open, self.lobby[from]->keys.open, KEY);
-    pair_of(&between, in, text.open, self.lobby[from]->keys.secret, self.lobby[to]->keys.open);
-    say(self.lobby[to]->inbox_name, self.lobby[from]->inbox_name, message, ask_write(&text, in, &between, message));
+    faz_pair_of(&between, in, text.open, self.lobby[from]->keys.secret, self.lobby[to]->keys.open);
+    say(self.lobby[to]->inbox_name, self.lobby[from]->inbox_name, message, faz_ask_write(&text, in, &between, message));
     run(300);
 }
 
@@ -654,11 +655,11 @@ static void test_false_vacancies(void) {
     open_friend(1);
     check(is_told(1, FAZ_LOBBY_JOINED, 1) && faz_lobby_begin(self.lobby[0]) && !faz_lobby_begin(self.lobby[0]), "it begins once");
     check(comes_to(0, FAZ_LOBBY_READY) && comes_to(1, FAZ_LOBBY_READY), "with two of three");
-    say(self.lobby[0]->inbox_name, NULL, message, news_write(1, &lie, &self.lobby[1]->other[0].pair, message));
+    say(self.lobby[0]->inbox_name, NULL, message, faz_news_write(1, &lie, &self.lobby[1]->other[0].pair, message));
     crypto_kx_keypair(lie.who.open, secret);
     for (lie.place = 0; lie.place < 9; lie.place++)
-        say(self.lobby[0]->inbox_name, NULL, message, news_write(2, &lie, &nobodys, message));
-    say(self.lobby[0]->inbox_name, NULL, message, signal_write(2, secret, sizeof secret, &nobodys, message));
+        say(self.lobby[0]->inbox_name, NULL, message, faz_news_write(2, &lie, &nobodys, message));
+    say(self.lobby[0]->inbox_name, NULL, message, faz_signal_write(2, secret, sizeof secret, &nobodys, message));
     run(300);
     check(self.told[0][FAZ_LOBBY_COMES] == 0 && faz_lobby_look(self.lobby[0], 1, &(faz_line_state){0})
               && !faz_lobby_look(self.lobby[0], 2, &(faz_line_state){0}), "nobody comes");
@@ -790,11 +791,11 @@ static void test_burnt(void) {
 static void knock_once(void) {
     uint8_t message[BROKER_MESSAGE];
     knock text = {.step = 1};
-    pake *one = pake_open(false, self.lobby[0]->hosting.plate, "0000");
+    pake *one = faz_pake_open(false, self.lobby[0]->hosting.plate, "0000");
     randombytes_buf(text.id, KNOCK_ID);
-    pake_turn(one, NULL, 0, text.bytes, &text.length);
-    pake_close(one);
-    say(self.lobby[0]->room_name, self.nobody, message, knock_write(&text, KNOCK, message));
+    faz_pake_turn(one, NULL, 0, text.bytes, &text.length);
+    faz_pake_close(one);
+    say(self.lobby[0]->room_name, self.nobody, message, faz_knock_write(&text, KNOCK, message));
     run(100);
 }
 
@@ -811,7 +812,7 @@ static void test_all_tries(void) {
         run(100);
     }
     uint8_t code[CODE_BYTES];
-    check(is_told(0, FAZ_LOBBY_CODE, 5) && code_read(self.code, code), "a long code");
+    check(is_told(0, FAZ_LOBBY_CODE, 5) && faz_code_read(self.code, code), "a long code");
     check(self.code_why == FAZ_LOBBY_WRONG_CODE, "and the host is told why");
     for (int times = 0; times < 12; times++) {
         self.skipped += 1000;
@@ -863,7 +864,7 @@ static void test_knocks(void) {
         knock text = {.step = (uint8_t)(times % 5), .length = randombytes_uniform(PAKE_BYTES)};
         randombytes_buf(text.id, KNOCK_ID);
         randombytes_buf(text.bytes, sizeof text.bytes);
-        size_t length = knock_write(&text, KNOCK, message);
+        size_t length = faz_knock_write(&text, KNOCK, message);
         say(self.lobby[0]->room_name, self.nobody, message, times % 3 == 0 ? randombytes_uniform((uint32_t)length) : length);
         if (times % 50 == 0)
             run(20);
@@ -893,7 +894,7 @@ static void say_knocked(bool is_wrong, size_t length) {
     knock text = {.step = self.lobby[1]->joining.knock.step, .is_wrong = is_wrong, .length = length};
     memcpy(text.id, self.lobby[1]->joining.knock.id, KNOCK_ID);
     randombytes_buf(text.bytes, sizeof text.bytes);
-    say(self.lobby[1]->inbox_name, NULL, message, knock_write(&text, KNOCKED, message));
+    say(self.lobby[1]->inbox_name, NULL, message, faz_knock_write(&text, KNOCKED, message));
     natsConnection_FlushTimeout(self.stranger, 1000);
     run(50);
 }
@@ -942,7 +943,7 @@ static void test_false_offer(void) {
         }
     check(changed.length > SEAL, "the host says something");
     changed.bytes[changed.length - 1] ^= 1;
-    join_hear(joins, &changed);
+    faz_join_hear(joins, &changed);
     self.lobby[1] = joins;
     check(joins->joining.has_key && !joins->is_over, "it ends nothing");
     check(is_told(0, FAZ_LOBBY_ASKS, 1) && faz_lobby_let_in(self.lobby[0], self.last[0].who, true), "the friend is let in");
@@ -975,13 +976,13 @@ static void test_knocks_again(void) {
     uint8_t message[BROKER_MESSAGE], inbox[INBOX];
     knock text = {.step = 1};
     open_short(2);
-    pake *one = pake_open(false, self.lobby[0]->hosting.plate, "0000");
+    pake *one = faz_pake_open(false, self.lobby[0]->hosting.plate, "0000");
     randombytes_buf(text.id, KNOCK_ID);
-    pake_turn(one, NULL, 0, text.bytes, &text.length);
-    pake_close(one);
-    size_t length = knock_write(&text, KNOCK, message);
+    faz_pake_turn(one, NULL, 0, text.bytes, &text.length);
+    faz_pake_close(one);
+    size_t length = faz_knock_write(&text, KNOCK, message);
     randombytes_buf(inbox, INBOX);
-    inbox_subject(inbox, other);
+    faz_inbox_subject(inbox, other);
     const char *const from[] = {self.nobody, other, self.nobody};
     for (size_t at = 0; at < sizeof from / sizeof *from; at++) {
         forget();
@@ -1037,7 +1038,7 @@ int main(int count, char **words) {
     if (sodium_init() < 0)
         return 2;
     randombytes_buf(inbox, INBOX);
-    inbox_subject(inbox, self.nobody);
+    faz_inbox_subject(inbox, self.nobody);
     if (natsConnection_ConnectTo(&self.stranger, self.url) != NATS_OK || !listen(true))
         return 2;
     for (size_t at = 0; at < (are_short ? sizeof shorts / sizeof *shorts : sizeof tests / sizeof *tests); at++) {

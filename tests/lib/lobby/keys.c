@@ -24,13 +24,13 @@ static void check_code(char **words) {
     char text[CODE_TEXT], digits[2 * KEY + 1];
     room in;
     check(sodium_hex2bin(host, KEY, words[1], strlen(words[1]), NULL, NULL, NULL) == 0, "the host's key is one");
-    code_of(code, host);
-    code_write(code, text);
-    room_of(&in, code);
+    faz_code_of(code, host);
+    faz_code_write(code, text);
+    faz_room_of(&in, code);
     check(strcmp(text, words[2]) == 0, text);
     check(strcmp(in.name, words[3]) == 0, in.name);
     check(strcmp(sodium_bin2hex(digits, sizeof digits, in.key, KEY), words[4]) == 0, digits);
-    check(code_read(words[2], read) && memcmp(read, code, CODE_BYTES) == 0, "the code is read");
+    check(faz_code_read(words[2], read) && memcmp(read, code, CODE_BYTES) == 0, "the code is read");
 }
 
 /* As a friend may write it. */
@@ -38,14 +38,14 @@ static void check_spelling(const char *text) {
     uint8_t code[CODE_BYTES], read[CODE_BYTES];
     char other[4 * CODE_TEXT];
     size_t length = 0;
-    check(code_read(text, code), "a code");
+    check(faz_code_read(text, code), "a code");
     for (const char *at = text; *at != 0; at++) {
         other[length++] = ' ';
         other[length++] = *at >= 'A' && *at <= 'Z' ? (char)(*at - 'A' + 'a') : *at == '0' ? 'o' : *at == '1' ? 'l' : *at;
     }
     other[length++] = '\n';
     other[length] = 0;
-    check(code_read(other, read) && memcmp(read, code, CODE_BYTES) == 0, "small letters, spaces, and letters that look like digits");
+    check(faz_code_read(other, read) && memcmp(read, code, CODE_BYTES) == 0, "small letters, spaces, and letters that look like digits");
 }
 
 /* A sign too few or too many, other bytes, and for each place every other sign, and each two neighbours the other way round. */
@@ -58,27 +58,27 @@ static void check_slips(const char *text) {
         for (size_t sign = 0; sign < strlen(signs) && text[at] != '-'; sign++) {
             strcpy(other, text);
             other[at] = signs[sign];
-            taken += signs[sign] != text[at] && code_read(other, read);
+            taken += signs[sign] != text[at] && faz_code_read(other, read);
         }
     for (size_t at = 0; at + 1 < strlen(text); at++) {
         strcpy(other, text);
         other[at] = text[at + 1];
         other[at + 1] = text[at];
-        taken += text[at] != text[at + 1] && text[at] != '-' && text[at + 1] != '-' && code_read(other, read);
+        taken += text[at] != text[at + 1] && text[at] != '-' && text[at + 1] != '-' && faz_code_read(other, read);
     }
     check(taken <= 2, "of 868 codes with one wrong sign, and 23 with two changed, hardly one is taken");
     snprintf(other, sizeof other, "%s0", text);
-    check(!code_read(other, read), "a sign too many");
+    check(!faz_code_read(other, read), "a sign too many");
     snprintf(other, sizeof other, "%s", text + 1);
-    check(!code_read(other, read), "a sign too few");
-    check(!code_read("", read) && !code_read("\xc3\xa9", read) && !code_read("U", read), "no code");
+    check(!faz_code_read(other, read), "a sign too few");
+    check(!faz_code_read("", read) && !faz_code_read("\xc3\xa9", read) && !faz_code_read("U", read), "no code");
 }
 
 static void draw_pair(pair *one, pair *other, const room *in) {
     uint8_t open[2][KEY], secret[2][KEY];
     crypto_kx_keypair(open[0], secret[0]);
     crypto_kx_keypair(open[1], secret[1]);
-    check(pair_of(one, in, open[0], secret[0], open[1]) && pair_of(other, in, open[1], secret[1], open[0]), "a pair");
+    check(faz_pair_of(one, in, open[0], secret[0], open[1]) && faz_pair_of(other, in, open[1], secret[1], open[0]), "a pair");
 }
 
 /* What one seals the other opens; nobody takes its own, another kind, another pair's or room's, or one with a bit changed. */
@@ -88,25 +88,26 @@ static void check_pairs(const room *in, const room *elsewhere) {
     char words[2][WORDS];
     draw_pair(&one, &other, in);
     draw_pair(&third, &fourth, in);
-    pair_seal(&one, sealed, 'x', text, sizeof text);
-    check(pair_open(&other, out, 'x', sealed, sizeof sealed) && memcmp(out, text, sizeof text) == 0, "the other one opens it");
-    check(!pair_open(&one, out, 'x', sealed, sizeof sealed), "who made it doesn't take it back");
-    check(!pair_open(&other, out, 'y', sealed, sizeof sealed), "another kind");
-    check(!pair_open(&third, out, 'x', sealed, sizeof sealed) && !pair_open(&fourth, out, 'x', sealed, sizeof sealed), "others");
-    check(!room_open(in, out, 'x', sealed, sizeof sealed), "who has the code alone");
+    faz_pair_seal(&one, sealed, 'x', text, sizeof text);
+    check(faz_pair_open(&other, out, 'x', sealed, sizeof sealed) && memcmp(out, text, sizeof text) == 0, "the other one opens it");
+    check(!faz_pair_open(&one, out, 'x', sealed, sizeof sealed), "who made it doesn't take it back");
+    check(!faz_pair_open(&other, out, 'y', sealed, sizeof sealed), "another kind");
+    check(!faz_pair_open(&third, out, 'x', sealed, sizeof sealed) && !faz_pair_open(&fourth, out, 'x', sealed, sizeof sealed), "others");
+    check(!faz_room_open(in, out, 'x', sealed, sizeof sealed), "who has the code alone");
     for (size_t at = 0; at < 8 * sizeof sealed; at++) {
         sealed[at / 8] ^= (uint8_t)(1 << at % 8);
-        check(!pair_open(&other, out, 'x', sealed, sizeof sealed), "a changed bit");
+        check(!faz_pair_open(&other, out, 'x', sealed, sizeof sealed), "a changed bit");
         sealed[at / 8] ^= (uint8_t)(1 << at % 8);
     }
-    pair_words(&one, words[0]);
-    pair_words(&other, words[1]);
+    faz_pair_words(&one, words[0]);
+    faz_pair_words(&other, words[1]);
     check(strcmp(words[0], words[1]) == 0 && strlen(words[0]) == 9, "both see the same signs");
-    pair_words(&third, words[1]);
+    faz_pair_words(&third, words[1]);
     check(strcmp(words[0], words[1]) != 0, "other pairs see others");
-    room_seal(in, sealed, 'x', text, sizeof text);
-    check(room_open(in, out, 'x', sealed, sizeof sealed) && !room_open(in, out, 'y', sealed, sizeof sealed), "all who have the code");
-    check(!room_open(elsewhere, out, 'x', sealed, sizeof sealed), "who has another code");
+    faz_room_seal(in, sealed, 'x', text, sizeof text);
+    check(faz_room_open(in, out, 'x', sealed, sizeof sealed) && !faz_room_open(in, out, 'y', sealed, sizeof sealed),
+          "all who have the code");
+    check(!faz_room_open(elsewhere, out, 'x', sealed, sizeof sealed), "who has another code");
 }
 
 /* The zero key, and points of small order, give no pair. */
@@ -114,37 +115,37 @@ static void check_bad_keys(const room *in) {
     uint8_t open[KEY], secret[KEY], bad[KEY] = {0};
     pair one;
     crypto_kx_keypair(open, secret);
-    check(!pair_of(&one, in, open, secret, bad), "a key of zeros");
+    check(!faz_pair_of(&one, in, open, secret, bad), "a key of zeros");
     bad[0] = 1;
-    check(!pair_of(&one, in, open, secret, bad), "a key of small order");
+    check(!faz_pair_of(&one, in, open, secret, bad), "a key of small order");
 }
 
 static void check_vouching(void) {
     uint8_t open[KEY], secret[SECRET], other[KEY], speaks[KEY], proof[PROOF];
-    host_draw(open, secret);
+    faz_host_draw(open, secret);
     randombytes_buf(speaks, KEY);
-    host_vouch(proof, secret, speaks);
-    check(host_vouched(proof, open, speaks), "the host's word");
-    host_draw(other, secret);
-    check(!host_vouched(proof, other, speaks), "another host's");
+    faz_host_vouch(proof, secret, speaks);
+    check(faz_host_vouched(proof, open, speaks), "the host's word");
+    faz_host_draw(other, secret);
+    check(!faz_host_vouched(proof, other, speaks), "another host's");
     speaks[7] ^= 1;
-    check(!host_vouched(proof, open, speaks), "for another key");
+    check(!faz_host_vouched(proof, open, speaks), "for another key");
 }
 
 /* So many keys that were here are known, and the oldest one is forgotten then. */
 static void check_seen(void) {
     static seen_keys seen;
     uint8_t open[KEY] = {0}, first[KEY] = {0};
-    check(!seen_has(&seen, open), "no key was here");
+    check(!faz_seen_has(&seen, open), "no key was here");
     for (uint32_t at = 0; at < 4096; at++) {
         memcpy(open, &at, sizeof at);
-        seen_note(&seen, open);
+        faz_seen_note(&seen, open);
     }
-    check(seen_has(&seen, open) && seen_has(&seen, first), "4,096 keys");
+    check(faz_seen_has(&seen, open) && faz_seen_has(&seen, first), "4,096 keys");
     open[KEY - 1] = 1;
-    check(!seen_has(&seen, open), "another one");
-    seen_note(&seen, open);
-    check(seen_has(&seen, open) && !seen_has(&seen, first), "and then the first one is forgotten");
+    check(!faz_seen_has(&seen, open), "another one");
+    faz_seen_note(&seen, open);
+    check(faz_seen_has(&seen, open) && !faz_seen_has(&seen, first), "and then the first one is forgotten");
 }
 
 /* A table comes back as it was, and none is read whose places don't hold together, or that was cut short. */
@@ -163,32 +164,32 @@ static void check_tables(const room *in) {
         randombytes_buf(text->member[at].open, KEY);
         randombytes_buf(text->member[at].inbox, INBOX);
     }
-    size_t length = answer_write(&written, &host, message);
-    check(length < BROKER_MESSAGE && answer_read(&came, &joins, message, length), "the longest answer");
+    size_t length = faz_answer_write(&written, &host, message);
+    check(length < BROKER_MESSAGE && faz_answer_read(&came, &joins, message, length), "the longest answer");
     check(came.counter == 3 && came.what == BEGINS && strcmp(came.name, "Ann") == 0 && came.table.me == 1 && came.table.number == 77
               && memcmp(came.table.owners, text->owners, sizeof text->owners) == 0
               && memcmp(came.table.member, text->member, sizeof text->member) == 0
               && memcmp(came.table.common, text->common, FAZ_LOBBY_COMMON) == 0, "it is read as it was written");
     text->owners[3] = 8;
-    check(!answer_read(&came, &joins, message, answer_write(&written, &host, message)), "a player of no machine");
+    check(!faz_answer_read(&came, &joins, message, faz_answer_write(&written, &host, message)), "a player of no machine");
     text->owners[3] = 3;
     text->me = 8;
-    check(!answer_read(&came, &joins, message, answer_write(&written, &host, message)), "a place that isn't there");
+    check(!faz_answer_read(&came, &joins, message, faz_answer_write(&written, &host, message)), "a place that isn't there");
     text->me = 1;
     text->players = 7;
-    check(!answer_read(&came, &joins, message, answer_write(&written, &host, message)), "an owner of no player");
+    check(!faz_answer_read(&came, &joins, message, faz_answer_write(&written, &host, message)), "an owner of no player");
     text->players = 8;
     member one = text->member[7];
     memcpy(text->member[7].open, text->member[2].open, KEY);
-    check(!answer_read(&came, &joins, message, answer_write(&written, &host, message)), "a key of two machines");
+    check(!faz_answer_read(&came, &joins, message, faz_answer_write(&written, &host, message)), "a key of two machines");
     text->member[7] = one;
     for (size_t cut = 0; cut < length; cut++)
-        check(!answer_read(&came, &joins, message, cut), "cut short");
+        check(!faz_answer_read(&came, &joins, message, cut), "cut short");
 }
 
 static void check_name(const char *given, const char *due) {
     char name[FAZ_LOBBY_NAME_ROOM];
-    name_clean(name, given);
+    faz_name_clean(name, given);
     check(strcmp(name, due) == 0, name);
 }
 
@@ -233,7 +234,7 @@ static int say_code(void) {
     uint8_t code[CODE_BYTES];
     char text[CODE_TEXT];
     randombytes_buf(code, CODE_BYTES);
-    code_write(code, text);
+    faz_code_write(code, text);
     puts(text);
     return 0;
 }
@@ -249,9 +250,9 @@ int main(int count, char **words) {
     check_spelling(words[2]);
     check_slips(words[2]);
     randombytes_buf(code, CODE_BYTES);
-    room_of(&in, code);
+    faz_room_of(&in, code);
     randombytes_buf(code, CODE_BYTES);
-    room_of(&elsewhere, code);
+    faz_room_of(&elsewhere, code);
     check_pairs(&in, &elsewhere);
     check_bad_keys(&in);
     check_vouching();

@@ -31,24 +31,24 @@ static result talk(const char *secret, const char *guess, const char *name, int 
     uint8_t from_host[PAKE_BYTES], from_joins[PAKE_BYTES];
     size_t host_size = 0, joins_size = 0;
     result seen = {PAKE_MORE, PAKE_MORE, 0, 0, {0}, {0}};
-    pake *host = pake_open(true, "KXQ", secret), *joins = pake_open(false, name, guess);
+    pake *host = faz_pake_open(true, "KXQ", secret), *joins = faz_pake_open(false, name, guess);
     for (int turn = 0; turn < TURNS && seen.host == PAKE_MORE && seen.joins != PAKE_WRONG; turn++) {
-        seen.joins = pake_turn(joins, from_host, host_size, from_joins, &joins_size);
+        seen.joins = faz_pake_turn(joins, from_host, host_size, from_joins, &joins_size);
         if (joins_size == 0)
             break;
         if (seen.said++ == changed)
             from_joins[(size_t)rand() % joins_size] ^= (uint8_t)(1 << rand() % 8);
-        seen.host = pake_turn(host, from_joins, joins_size, from_host, &host_size);
+        seen.host = faz_pake_turn(host, from_joins, joins_size, from_host, &host_size);
         if (host_size > 0 && seen.said++ == changed)
             from_host[(size_t)rand() % host_size] ^= (uint8_t)(1 << rand() % 8);
         seen.longest = host_size > seen.longest ? host_size : joins_size > seen.longest ? joins_size : seen.longest;
     }
     if (seen.host == PAKE_DONE)
-        seen.joins = pake_turn(joins, from_host, host_size, from_joins, &joins_size);
-    pake_key(host, seen.host_key);
-    pake_key(joins, seen.key);
-    pake_close(host);
-    pake_close(joins);
+        seen.joins = faz_pake_turn(joins, from_host, host_size, from_joins, &joins_size);
+    faz_pake_key(host, seen.host_key);
+    faz_pake_key(joins, seen.key);
+    faz_pake_close(host);
+    faz_pake_close(joins);
     return seen;
 }
 
@@ -82,24 +82,24 @@ int main(void) {
     for (int times = 0; times < 200; times++) {
         uint8_t junk[PAKE_BYTES], out[PAKE_BYTES];
         size_t size;
-        pake *host = pake_open(true, "KXQ", "4H7P");
+        pake *host = faz_pake_open(true, "KXQ", "4H7P");
         for (size_t at = 0; at < sizeof junk; at++)
             junk[at] = (uint8_t)rand();
         if (times % 2 == 0)
             memcpy(junk, "\x16\x03\x03", 3);
-        check(pake_turn(host, junk, (size_t)rand() % sizeof junk, out, &size) != PAKE_DONE, "junk");
-        pake_close(host);
+        check(faz_pake_turn(host, junk, (size_t)rand() % sizeof junk, out, &size) != PAKE_DONE, "junk");
+        faz_pake_close(host);
     }
-    pake *host = pake_open(true, "KXQ", "4H7P");
+    pake *host = faz_pake_open(true, "KXQ", "4H7P");
     uint8_t out[PAKE_BYTES], other[PAKE_BYTES];
     size_t size, length;
-    pake *joins = pake_open(false, "KXQ", "4H7P");
-    pake_turn(joins, NULL, 0, out, &size);
+    pake *joins = faz_pake_open(false, "KXQ", "4H7P");
+    faz_pake_turn(joins, NULL, 0, out, &size);
     for (size_t at = 0; at < size; at++)
-        check(pake_turn(host, out + at, 1, other, &length) == PAKE_MORE, "byte by byte");
+        check(faz_pake_turn(host, out + at, 1, other, &length) == PAKE_MORE, "byte by byte");
     check(length > 0, "the last byte is answered");
-    pake_close(joins);
-    pake_close(host);
-    pake_close(NULL);
+    faz_pake_close(joins);
+    faz_pake_close(host);
+    faz_pake_close(NULL);
     return failed != 0;
 }

@@ -27,17 +27,18 @@ static void check_published(void) {
     uint8_t seed[NKEY], open[NKEY], read[NKEY];
     char text[SEED_TEXT];
     nkey key;
-    check(nkey_read_seed(&key, NKEY_USER, seed_text, strlen(seed_text)), "a seed");
-    nkey_write_seed(&key, text);
+    check(faz_nkey_read_seed(&key, NKEY_USER, seed_text, strlen(seed_text)), "a seed");
+    faz_nkey_write_seed(&key, text);
     check(strcmp(text, seed_text) == 0, text);
-    nkey_write(NKEY_USER, key.open, text);
+    faz_nkey_write(NKEY_USER, key.open, text);
     check(strcmp(text, key_text) == 0, text);
-    check(nkey_read(NKEY_USER, key_text, strlen(key_text), read) && memcmp(read, key.open, NKEY) == 0, "a key");
-    check(!nkey_read(NKEY_ACCOUNT, key_text, strlen(key_text), read) && !nkey_read_seed(&key, NKEY_ACCOUNT, seed_text, strlen(seed_text)),
+    check(faz_nkey_read(NKEY_USER, key_text, strlen(key_text), read) && memcmp(read, key.open, NKEY) == 0, "a key");
+    check(!faz_nkey_read(NKEY_ACCOUNT, key_text, strlen(key_text), read)
+              && !faz_nkey_read_seed(&key, NKEY_ACCOUNT, seed_text, strlen(seed_text)),
           "one of another kind");
     read_digits("9d61b19deffd5a60ba844af492ec2cc44449c5697b326919703bac031cae7f60", seed);
     read_digits("d75a980182b10ab7d54bfed3c964073a0ee172f3daa62325af021a68f707511a", open);
-    nkey_of_seed(&key, NKEY_USER, seed);
+    faz_nkey_of_seed(&key, NKEY_USER, seed);
     check(memcmp(key.open, open, NKEY) == 0, "a key of RFC 8032");
 }
 
@@ -48,14 +49,14 @@ static void check_made(char **words) {
     pass self, came;
     nkey user;
     check(read_digits(words[1], seed) && read_digits(words[2], self.account), "digits");
-    nkey_of_seed(&self.signer, NKEY_ACCOUNT, seed);
+    faz_nkey_of_seed(&self.signer, NKEY_ACCOUNT, seed);
     check(read_digits(words[3], seed), "digits");
-    nkey_of_seed(&user, NKEY_USER, seed);
-    pass_write(&self, text);
+    faz_nkey_of_seed(&user, NKEY_USER, seed);
+    faz_pass_write(&self, text);
     check(strcmp(text, words[4]) == 0, text);
-    check(pass_read(&came, text, strlen(text)) && memcmp(&came.signer.secret, &self.signer.secret, NKEY_SECRET) == 0
+    check(faz_pass_read(&came, text, strlen(text)) && memcmp(&came.signer.secret, &self.signer.secret, NKEY_SECRET) == 0
               && memcmp(came.account, self.account, NKEY) == 0, "it is read as it was written");
-    pass_token(&came, &user, token);
+    faz_pass_token(&came, &user, token);
     check(strcmp(token, words[5]) == 0, token);
 }
 
@@ -69,34 +70,34 @@ static void check_slips(const char *text) {
         size_t place = at / (sizeof signs - 1);
         strcpy(other, text);
         other[place] = signs[at % (sizeof signs - 1)];
-        taken += other[place] != text[place] && pass_read(&came, other, length);
+        taken += other[place] != text[place] && faz_pass_read(&came, other, length);
     }
     check(taken == 0, "another sign");
     for (size_t at = 0; at + 1 < length; at++) {
         strcpy(other, text);
         other[at] = text[at + 1];
         other[at + 1] = text[at];
-        taken += text[at] != text[at + 1] && pass_read(&came, other, length);
+        taken += text[at] != text[at + 1] && faz_pass_read(&came, other, length);
     }
     check(taken == 0, "two signs the other way round");
     for (size_t cut = 0; cut < length; cut++)
-        taken += pass_read(&came, text, cut) || pass_read(&came, text + length - cut, cut);
+        taken += faz_pass_read(&came, text, cut) || faz_pass_read(&came, text + length - cut, cut);
     snprintf(other, sizeof other, "%sA", text);
-    check(taken == 0 && !pass_read(&came, other, length + 1), "too short, or too long");
+    check(taken == 0 && !faz_pass_read(&came, other, length + 1), "too short, or too long");
     strcpy(other, text);
     other[3] = 0;
-    check(!pass_read(&came, other, length), "a text that ends in it");
+    check(!faz_pass_read(&came, other, length), "a text that ends in it");
 }
 
 /* There is room for what is longest, and no byte is written behind it. */
 static void check_room(void) {
     char out[TOKEN_TEXT], small[TOKEN_TEXT];
     nkey key;
-    nkey_draw(&key, NKEY_OPERATOR);
-    check(token_sign(&key, "{}", out, sizeof out), "a token");
+    faz_nkey_draw(&key, NKEY_OPERATOR);
+    check(faz_token_sign(&key, "{}", out, sizeof out), "a token");
     for (size_t room = 1; room <= strlen(out); room++)
-        check(!token_sign(&key, "{}", small, room), "a token without room for it");
-    check(token_sign(&key, "{}", small, strlen(out) + 1) && strcmp(out, small) == 0, "a token that just fits");
+        check(!faz_token_sign(&key, "{}", small, room), "a token without room for it");
+    check(faz_token_sign(&key, "{}", small, strlen(out) + 1) && strcmp(out, small) == 0, "a token that just fits");
 }
 
 int main(int count, char **words) {

@@ -139,7 +139,7 @@ static void test_overtaken(const char *address, const char *due) {
     }
     check(self->looking != NULL && !self->has_addresses, "names are looked up");
     strcpy(answer.relay[0].address, address);
-    lobby_take_servers(self, &answer);
+    faz_lobby_take_servers(self, &answer);
     is_slow = false;
     check(has_addresses(self) && self->line.relay_count > 0 && is_relay(self, 0, due, 7, "later"), "the relay that came later");
     check(self->line.stun != NULL && strcmp(self->line.stun, "127.0.0.4") == 0 && !is_away_told(self), "its STUN server");
