@@ -6,6 +6,8 @@
  * datagram that comes and one that goes. The last lines are many sessions that take turns: the least of two runs, and a minute at 60
  * frames a second, in which each frame of all sessions has a sixtieth of a second. `c_frames 0` leaves the minute out. */
 #define _POSIX_C_SOURCE 199309L
+#include "../tests/check.h"
+
 #include <fazgrond.h>
 #include <stdio.h>
 #include <stdlib.h>
@@ -21,13 +23,6 @@ typedef struct match {
     uint64_t saved[SLOTS];
     uint64_t steps;
 } match;
-
-static void must(int32_t code) {
-    if (code != FAZGROND_OK) {
-        fprintf(stderr, "refused: %d\n", (int)code);
-        exit(1);
-    }
-}
 
 static double now(void) {
     struct timespec time;
@@ -57,7 +52,7 @@ static void carry_out_all(match *game) {
 static void open_match(match *game) {
     fazgrond_settings settings = fazgrond_settings_for(2);
     settings.local = 1;
-    must(fazgrond_open(&game->session, &settings));
+    OK(fazgrond_open(&game->session, &settings));
     game->state = game->saved[0] = 0;
     game->steps = 0;
 }
@@ -65,7 +60,7 @@ static void open_match(match *game) {
 /* Player 2's word of a frame: another one in each frame, or always 0. */
 static void hear(match *game, uint32_t frame, int changes) {
     uint32_t repeated;
-    must(fazgrond_remote_input(&game->session, 2, frame, changes ? frame : 0, &repeated));
+    OK(fazgrond_remote_input(&game->session, 2, frame, changes ? frame : 0, &repeated));
 }
 
 static void play(match *game, uint32_t late, int changes) {
@@ -75,12 +70,12 @@ static void play(match *game, uint32_t late, int changes) {
         if (frame >= late) {
             hear(game, frame - late, changes);
             if (late > 0) {
-                must(fazgrond_synchronize_input(&game->session, &row));
+                OK(fazgrond_synchronize_input(&game->session, &row));
                 carry_out_all(game);
             }
         }
-        must(fazgrond_add_local_input(&game->session, 1, frame));
-        must(fazgrond_advance_frame(&game->session, &reached));
+        OK(fazgrond_add_local_input(&game->session, 1, frame));
+        OK(fazgrond_advance_frame(&game->session, &reached));
         carry_out_all(game);
     }
 }
@@ -184,10 +179,7 @@ static void measure(const char *what, uint32_t late, int changes) {
     double others = least_of(&other, late, changes, play_by_policy, 0);
     printf("%-38s %7.0f ns a frame, %4.2f steps; GGPO's policy %5.0f ns, %4.2f steps\n", what, took,
            (double)game.steps / FRAMES, others, (double)other.steps / FRAMES);
-    if (game.state != other.state) {
-        fprintf(stderr, "the states differ\n");
-        exit(1);
-    }
+    MUST(game.state == other.state);
     fazgrond_close(&game.session);
 }
 
@@ -207,8 +199,8 @@ static void open_machine(machine *at, uint32_t me) {
     match.owners[1] = 1;
     match.draw = me + 1;
     fazgrond_one_number(&match, 7);
-    must(fazgrond_open(&at->match.session, &settings));
-    must(fazgrond_peer_open(&at->peer, &at->match.session, &match));
+    OK(fazgrond_open(&at->match.session, &settings));
+    OK(fazgrond_peer_open(&at->peer, &at->match.session, &match));
     at->match.state = at->match.saved[0] = at->match.steps = 0;
     at->length = 0;
 }
@@ -219,12 +211,12 @@ static void take_turn(machine *at, uint32_t me, machine *other, uint32_t turn) {
     uint32_t is_running, now = turn * 16;
     if (at->length > 0) /* a first play can't be opened yet */
         (void)fazgrond_peer_receive(&at->peer, session, at->bytes, at->length, now);
-    must(fazgrond_peer_poll(&at->peer, session, now));
-    must(fazgrond_peer_is_running(&at->peer, &is_running));
+    OK(fazgrond_peer_poll(&at->peer, session, now));
+    OK(fazgrond_peer_is_running(&at->peer, &is_running));
     if (is_running != 0 && fazgrond_add_local_input(session, (uint8_t)(me + 1), turn) == FAZGROND_OK)
-        must(fazgrond_advance_frame(session, &reached));
+        OK(fazgrond_advance_frame(session, &reached));
     carry_out_all(&at->match);
-    must(fazgrond_peer_send(&at->peer, session, (uint8_t)(1 - me), now, other->bytes, sizeof other->bytes, &other->length));
+    OK(fazgrond_peer_send(&at->peer, session, (uint8_t)(1 - me), now, other->bytes, sizeof other->bytes, &other->length));
 }
 
 static void measure_peers(void) {
@@ -242,7 +234,7 @@ static void measure_peers(void) {
         if (run == 0 || took < least)
             least = took;
     }
-    must(fazgrond_frame(&both[0].match.session, &frame));
+    OK(fazgrond_frame(&both[0].match.session, &frame));
     printf("%-38s %7.0f ns a turn, %4.2f steps, %.2f frames\n", "two peers, a turn of one", least,
            (double)both[0].match.steps / FRAMES, (double)frame / FRAMES);
     for (uint32_t me = 0; me < 2; me++) {
@@ -265,8 +257,8 @@ static void play_frame(match *games, uint32_t frame) {
     for (size_t at = 0; at < SESSIONS; at++) {
         if (frame >= 2)
             hear(&games[at], frame - 2, 1);
-        must(fazgrond_add_local_input(&games[at].session, 1, frame));
-        must(fazgrond_advance_frame(&games[at].session, &reached));
+        OK(fazgrond_add_local_input(&games[at].session, 1, frame));
+        OK(fazgrond_advance_frame(&games[at].session, &reached));
         carry_out_all(&games[at]);
     }
 }
@@ -313,8 +305,7 @@ static void measure_minute(match *games) {
 
 static void measure_many(int minute) {
     match *games = calloc(SESSIONS, sizeof(match));
-    if (games == NULL)
-        exit(1);
+    MUST(games != NULL);
     measure_turns(games);
     if (minute)
         measure_minute(games);

@@ -5,6 +5,8 @@
  * itself, and with all requests that it leaves carried out. It is the processor's time, so that what else runs counts for little. What it
  * takes of memory is counted at malloc and realloc, by which it is linked (-Wl,--wrap): the library calls them alone. */
 #define _POSIX_C_SOURCE 199309L
+#include "../tests/check.h"
+
 #include <fazgrond.h>
 #include <stdio.h>
 #include <stdlib.h>
@@ -64,13 +66,6 @@ void *__wrap_realloc(void *at, size_t size) {
     return __real_realloc(at, size);
 }
 
-static void must(int32_t code) {
-    if (code != FAZGROND_OK) {
-        fprintf(stderr, "refused: %d\n", (int)code);
-        exit(1);
-    }
-}
-
 static double now(void) {
     struct timespec time;
     clock_gettime(CLOCK_PROCESS_CPUTIME_ID, &time);
@@ -119,8 +114,8 @@ static void open_machine(uint32_t me, uint32_t count) {
     fazgrond_epoch epoch = fazgrond_epoch_for(&match, &settings);
     for (uint32_t player = 0; player < count; player++)
         settings.delays[player] = player == me ? 2 : 0;
-    must(fazgrond_open(&self->session, &settings));
-    must(fazgrond_peer_open_lasting(&self->peer, &self->session, &match, &epoch));
+    OK(fazgrond_open(&self->session, &settings));
+    OK(fazgrond_peer_open_lasting(&self->peer, &self->session, &match, &epoch));
     save(self, 0);
 }
 
@@ -167,7 +162,7 @@ static void go_on(machine *self) {
     took.bytes = bytes_taken - took.bytes;
     if (code == FAZGROND_NOTHING)
         return;
-    must(code);
+    OK(code);
     carry_out_all(self);
     took.all = now() - from;
     if (self->seams++ < SEAMS)
@@ -180,14 +175,14 @@ static void take_turn(uint32_t me, uint32_t count, uint32_t turn) {
     fazgrond_reached reached;
     uint32_t is_running;
     hear(self, turn);
-    must(fazgrond_peer_poll(&self->peer, &self->session, turn * 16));
-    must(fazgrond_peer_is_running(&self->peer, &is_running));
+    OK(fazgrond_peer_poll(&self->peer, &self->session, turn * 16));
+    OK(fazgrond_peer_is_running(&self->peer, &is_running));
     if (is_running != 0) {
         go_on(self);
         if (me == 0 && turn % MARK_EVERY == 0)
-            must(fazgrond_peer_mark(&self->peer, &self->session, 1, &mark));
+            OK(fazgrond_peer_mark(&self->peer, &self->session, 1, &mark));
         if (fazgrond_add_local_input(&self->session, (uint8_t)(me + 1), turn / 7 * (me + 1)) == FAZGROND_OK)
-            must(fazgrond_advance_frame(&self->session, &reached));
+            OK(fazgrond_advance_frame(&self->session, &reached));
         carry_out_all(self);
     }
     send_all(me, count, turn);

@@ -94,13 +94,6 @@ ended() {
     done
 }
 
-# Whether a machine of over_udp, to which no other comes, ends with a word and doesn't wait. Its command is told without ME and the rest.
-ends_alone() {
-    port=$((34000 + $$ % 1000))
-    timeout 60 "$@" 0 $port 127.0.0.1 9 > "$work/alone.out" 2> "$work/alone.err"
-    [ $? = 1 ] && [ ! -s "$work/alone.out" ] && grep "hasn't come so far\|isn't in this match" "$work/alone.err"
-}
-
 # Waits until machines are in the match, or watch it.
 began() {
     for name; do

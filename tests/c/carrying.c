@@ -2,23 +2,16 @@
  * one, with words held back and not, with old plays that come again, and with memory refused at each place. Nobody may be gone, and all
  * have to come to the state of the game that is run once over all words. Says nothing if all is as it has to be. `carrying few` refuses
  * a tenth of the allocations. */
+#define CHECKS_OF "%s", of_what
+#include "../check.h"
+
 #include <fazgrond.h>
 #include <stdbool.h>
 #include <stdio.h>
 #include <stdlib.h>
 #include <string.h>
 
-#define IS(got, wanted) is((int64_t)(got), (int64_t)(wanted), __LINE__)
-#define OK(call) IS(call, FAZGROND_OK)
-
 static const char *of_what = "";
-
-static void is(int64_t got, int64_t wanted, int line) {
-    if (got != wanted) {
-        fprintf(stderr, "%s, line %d: %lld, not %lld\n", of_what, line, (long long)got, (long long)wanted);
-        exit(1);
-    }
-}
 
 /* ---- The library's memory, in the place of heap.c's: one allocation of it is refused, and what is out is counted. */
 

@@ -3,6 +3,10 @@
  * many turns it took. All rows and states are compared with those of a game that is run once over the settled rows. The last line is
  * `N passed, M failed`. `coming few` plays few of each kind, `coming times` says how long coming back takes, and `coming COUNT` draws so many
  * worlds: who stops when, who comes when, on which line. */
+/* What isn't as it has to be ends its case. */
+#define CHECKS_OF "%s (%u, %u)", of_what, (unsigned)of_one, (unsigned)of_two
+#define CHECKS_LEAVE longjmp(way_out, 1)
+#include "../check.h"
 #include "faz_rejoin.h"
 
 #include <setjmp.h>
@@ -10,22 +14,9 @@
 #include <stdlib.h>
 #include <string.h>
 
-#define IS(got, wanted) is((int64_t)(got), (int64_t)(wanted), __LINE__)
-#define OK(call) IS(call, FAZGROND_OK)
-
 static const char *of_what = "";
 static uint32_t of_one, of_two;
-static unsigned passed, failed;
 static jmp_buf way_out;
-
-/* What isn't as it has to be ends its case. */
-static void is(int64_t got, int64_t wanted, int line) {
-    if (got == wanted)
-        return;
-    fprintf(stderr, "%s (%u, %u), line %d: %lld, not %lld\n", of_what, (unsigned)of_one, (unsigned)of_two, line, (long long)got,
-            (long long)wanted);
-    longjmp(way_out, 1);
-}
 
 /* ---- Places, at each of which a program runs or not. Place p has player p, if it has one, and is machine p. Turns take 16 ms. */
 
@@ -879,11 +870,9 @@ static void tries(const char *what, void (*try)(uint32_t, uint32_t), uint32_t on
     of_what = what;
     of_one = one;
     of_two = two;
-    if (setjmp(way_out) == 0) {
+    if (setjmp(way_out) == 0)
         try(one, two);
-        passed++;
-    } else
-        failed++;
+    checks_end_case();
 }
 
 /* A world that was drawn: programs stop and come back, one or two at a time, on a line that may lose and repeat datagrams. */
@@ -998,6 +987,5 @@ int main(int count, char **words) {
         stop(at);
         free(all[at].line);
     }
-    printf("%u passed, %u failed\n", passed, failed);
-    return failed > 0;
+    return checks_end();
 }

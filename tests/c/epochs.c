@@ -6,7 +6,11 @@
  * of the game that is run once over the rows. The last line is `N passed, M failed`. `epochs COUNT [SEED]` draws so many worlds, in
  * place of 60; `epochs few` plays few of each kind, `epochs each` one; `epochs long` plays on past the last frame that a session
  * has. */
+/* What isn't as it has to be ends its case. */
+#define CHECKS_OF "%s (%u, %u)", of_what, (unsigned)of_one, (unsigned)of_two
+#define CHECKS_LEAVE longjmp(way_out, 1)
 #include "../../lib/sha256.h"
+#include "../check.h"
 
 #include <fazgrond.h>
 #include <setjmp.h>
@@ -15,22 +19,9 @@
 #include <stdlib.h>
 #include <string.h>
 
-#define IS(got, wanted) is((int64_t)(got), (int64_t)(wanted), __LINE__)
-#define OK(call) IS(call, FAZGROND_OK)
-
 static const char *of_what = "";
 static uint32_t of_one, of_two;
-static unsigned passed, failed;
 static jmp_buf way_out;
-
-/* What isn't as it has to be ends its case. */
-static void is(int64_t got, int64_t wanted, int line) {
-    if (got == wanted)
-        return;
-    fprintf(stderr, "%s (%u, %u), line %d: %lld, not %lld\n", of_what, (unsigned)of_one, (unsigned)of_two, line, (long long)got,
-            (long long)wanted);
-    longjmp(way_out, 1);
-}
 
 /* ---- A match, whose turns take 16 milliseconds. */
 
@@ -2169,11 +2160,9 @@ static void tries(const char *name, void (*of)(uint32_t, uint32_t), uint32_t one
     of_one = one;
     of_two = two;
     seed = 1;
-    if (setjmp(way_out) == 0) {
+    if (setjmp(way_out) == 0)
         of(one, two);
-        passed++;
-    } else
-        failed++;
+    checks_end_case();
     close_all();
 }
 
@@ -2332,6 +2321,5 @@ int main(int count, char **words) {
             tries("a machine stops near a mark and is stalled", stops_near_a_stall, first + at, (first + at) % (2 * AROUND));
         }
     }
-    printf("%u passed, %u failed\n", passed, failed);
-    return failed != 0;
+    return checks_end();
 }

@@ -1,18 +1,11 @@
 /* What a player's habits answer: refusals, and guesses that were worked out by bench/choices.py. Says nothing if all is as it has
  * to be. */
+#include "../check.h"
+
 #include <fazgrond.h>
 #include <stdio.h>
 #include <stdlib.h>
 #include <string.h>
-
-#define IS(call, wanted) is((long)(call), (long)(wanted), __LINE__)
-
-static void is(long got, long wanted, int line) {
-    if (got != wanted) {
-        fprintf(stderr, "line %d: %ld, not %ld\n", line, got, wanted);
-        exit(1);
-    }
-}
 
 static const uint32_t none[1], pad[] = { 240, 256 }, over[] = { 240, 256, 16 }, empty[] = { 240, 0 };
 

@@ -1,20 +1,12 @@
 /* Words that a peer holds back: that they wait, for how long, what hands them over, and that a guess with them leaves nothing to run
  * again. Then matches on a bad line: all machines come to the state of the game that is run once, whoever holds words back. Says
  * nothing if all is as it has to be. `held 20` plays 20 matches of each kind, in place of 60. */
+#include "../check.h"
+
 #include <fazgrond.h>
 #include <stdio.h>
 #include <stdlib.h>
 #include <string.h>
-
-#define IS(got, wanted) is((int64_t)(got), (int64_t)(wanted), __LINE__)
-#define OK(call) IS(call, FAZGROND_OK)
-
-static void is(int64_t got, int64_t wanted, int line) {
-    if (got != wanted) {
-        fprintf(stderr, "line %d: %lld, not %lld\n", line, (long long)got, (long long)wanted);
-        exit(1);
-    }
-}
 
 enum { SLOTS = 1024, MOST_MACHINES = 3, MOST_TURNS = 8, JOB_REQUESTS = 17, JOBS = 64, UNDER_WAY = 128, FRAMES = 200 };
 

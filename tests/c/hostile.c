@@ -8,6 +8,9 @@
 #include "../../lib/sha256.h"
 #include "trials/packets.h"
 
+#define CHECKS_OF "%s, turn %u", of_what, (unsigned)turn
+#include "../check.h"
+
 #include <fazgrond.h>
 #include <malloc.h>
 #include <stdio.h>
@@ -21,20 +24,6 @@ enum { SMALL = 1 << 18 /* bytes that malloc may keep to itself */ };
 enum { MAP = 3, CARRIED = 4, LABEL = 4, FRAMES_OF_A_CASE = 3000, LIES_A_TURN = 24, DELAY = 2 };
 
 static const char *of_what = "";
-static unsigned passed, failed;
-static bool is_wrong;
-
-static void must(bool is_so, const char *what) {
-    if (!is_so && !is_wrong)
-        fprintf(stderr, "%s: %s\n", of_what, what);
-    is_wrong |= !is_so;
-}
-
-static void ends(void) {
-    *(is_wrong ? &failed : &passed) += 1;
-    is_wrong = false;
-}
-
 static uint64_t seed;
 
 static uint32_t below(uint32_t count) {
@@ -106,10 +95,10 @@ static void open_machine(uint32_t me) {
     }
     for (uint32_t other = 0; other < MACHINES; other++)
         match.numbers[other] = number_of(me, other);
-    must(self->line != NULL && fazgrond_open(&self->session, &settings) == FAZGROND_OK
-             && fazgrond_peer_open_lasting(&self->peer, &self->session, &match, &epoch) == FAZGROND_OK
-             && fazgrond_peer_epoch(&self->peer, &self->epoch) == FAZGROND_OK,
-         "it opens");
+    CHECK_SAY(self->line != NULL && fazgrond_open(&self->session, &settings) == FAZGROND_OK
+                  && fazgrond_peer_open_lasting(&self->peer, &self->session, &match, &epoch) == FAZGROND_OK
+                  && fazgrond_peer_epoch(&self->peer, &self->epoch) == FAZGROND_OK,
+              "it opens");
 }
 
 static void close_machine(uint32_t me) {
@@ -140,14 +129,14 @@ static void carry_out(machine *self) {
             if (self->is_closing && request.slot == 0 && self->now.frame == self->epoch.base)
                 end_epoch(self);
             break;
-        default: must(request.kind == FAZGROND_FREE, "a request");
+        default: CHECK_SAY(request.kind == FAZGROND_FREE, "a request");
         }
 }
 
 static void see_settled(machine *self) {
     uint32_t frame, slot;
     fazgrond_row row;
-    must(fazgrond_settled_slot(&self->session, &frame, &slot) == FAZGROND_OK, "a settled slot");
+    CHECK_SAY(fazgrond_settled_slot(&self->session, &frame, &slot) == FAZGROND_OK, "a settled slot");
     while (self->settled < self->epoch.base + frame
            && fazgrond_settled_row(&self->session, (uint32_t)(self->settled - self->epoch.base), &row) == FAZGROND_OK)
         keep(self, &row);
@@ -198,12 +187,12 @@ static void hear_events(uint32_t me) {
         if (event.code == FAZGROND_TIME_SYNC)
             all[me].wait = event.frames_ahead;
         bool is_of_liar = event.machine == LIAR;
-        must(event.code != FAZGROND_LEFT || is_of_liar || !is_honest(me), "nobody who is honest is gone");
-        must(event.code != FAZGROND_DESYNC || is_of_liar || !is_honest(me), "all who are honest have the same states");
-        must(event.code != FAZGROND_REFUSED || is_of_liar || !is_honest(me), "nobody who is honest is refused");
+        CHECK_SAY(event.code != FAZGROND_LEFT || is_of_liar || !is_honest(me), "nobody who is honest is gone");
+        CHECK_SAY(event.code != FAZGROND_DESYNC || is_of_liar || !is_honest(me), "all who are honest have the same states");
+        CHECK_SAY(event.code != FAZGROND_REFUSED || is_of_liar || !is_honest(me), "nobody who is honest is refused");
         all[me].refused += event.code == FAZGROND_REFUSED;
-        must(all[me].refused <= all[me].epochs + 1 || !is_honest(me), "the liar is told of once in an epoch");
-        must(event.code != FAZGROND_DROPPED && event.code != FAZGROND_CUT_OFF, "nobody who is honest is cut off");
+        CHECK_SAY(all[me].refused <= all[me].epochs + 1 || !is_honest(me), "the liar is told of once in an epoch");
+        CHECK_SAY(event.code != FAZGROND_DROPPED && event.code != FAZGROND_CUT_OFF, "nobody who is honest is cut off");
     }
 }
 
@@ -212,22 +201,22 @@ static void go_on(uint32_t me) {
     uint32_t frames, has_news = 0;
     fazgrond_row row;
     if (fazgrond_has_news(&self->session, &has_news) == FAZGROND_OK && has_news != 0)
-        must(fazgrond_synchronize_input(&self->session, &row) == FAZGROND_OK, "news are played");
+        CHECK_SAY(fazgrond_synchronize_input(&self->session, &row) == FAZGROND_OK, "news are played");
     carry_out(self);
     see_settled(self);
     if (fazgrond_peer_go_on(&self->peer, &self->session, &frames) != FAZGROND_OK)
         return;
-    must(fazgrond_peer_epoch(&self->peer, &self->epoch) == FAZGROND_OK, "an epoch");
+    CHECK_SAY(fazgrond_peer_epoch(&self->peer, &self->epoch) == FAZGROND_OK, "an epoch");
     self->epochs++;
     self->is_closing = true;
     carry_out(self);
-    must(!self->is_closing, "an epoch ends with its state");
+    CHECK_SAY(!self->is_closing, "an epoch ends with its state");
     for (uint32_t at = 0; at < MACHINES; at++) {
-        must(self->epoch.owners[at] == at || self->epoch.owners[at] == FAZGROND_NOBODY, "nobody comes without a ticket");
-        must(self->epoch.owners[at] == FAZGROND_NOBODY || self->epoch.delays[at] == DELAY, "no delay is another's");
-        must(is_honest(at) ? self->epoch.owners[at] == at : true, "an honest machine stays");
+        CHECK_SAY(self->epoch.owners[at] == at || self->epoch.owners[at] == FAZGROND_NOBODY, "nobody comes without a ticket");
+        CHECK_SAY(self->epoch.owners[at] == FAZGROND_NOBODY || self->epoch.delays[at] == DELAY, "no delay is another's");
+        CHECK_SAY(is_honest(at) ? self->epoch.owners[at] == at : true, "an honest machine stays");
     }
-    must(self->epoch.threshold == 8, "no threshold that can't be");
+    CHECK_SAY(self->epoch.threshold == 8, "no threshold that can't be");
 }
 
 static void play(uint32_t me) {
@@ -245,9 +234,9 @@ static void play(uint32_t me) {
         self->given[(self->epoch.base + frame) % KEPT] = word;
         self->was_given[(self->epoch.base + frame) % KEPT] = true;
         self->gave++;
-        must(fazgrond_advance_frame(&self->session, &reached) == FAZGROND_OK, "a frame");
+        CHECK_SAY(fazgrond_advance_frame(&self->session, &reached) == FAZGROND_OK, "a frame");
     } else if (fazgrond_has_news(&self->session, &has_news) == FAZGROND_OK && has_news != 0)
-        must(fazgrond_synchronize_input(&self->session, &row) == FAZGROND_OK, "news are played");
+        CHECK_SAY(fazgrond_synchronize_input(&self->session, &row) == FAZGROND_OK, "news are played");
     carry_out(self);
     see_settled(self);
 }
@@ -268,8 +257,8 @@ static void send_all(uint32_t me) {
 static void take_turn(uint32_t me) {
     uint32_t is_running;
     hear(me);
-    must(fazgrond_peer_poll(&all[me].peer, &all[me].session, now_of(me)) == FAZGROND_OK, "a poll");
-    must(fazgrond_peer_is_running(&all[me].peer, &is_running) == FAZGROND_OK, "whether it runs");
+    CHECK_SAY(fazgrond_peer_poll(&all[me].peer, &all[me].session, now_of(me)) == FAZGROND_OK, "a poll");
+    CHECK_SAY(fazgrond_peer_is_running(&all[me].peer, &is_running) == FAZGROND_OK, "whether it runs");
     if (is_running != 0) {
         go_on(me);
         play(me);
@@ -444,14 +433,14 @@ static uint64_t agree_from(uint64_t frame) {
     uint64_t end = all[0].settled;
     for (uint32_t me = 1; me < HONEST; me++)
         end = all[me].settled < end ? all[me].settled : end;
-    must(end < frame + KEPT, "rows are compared in time");
+    CHECK_SAY(end < frame + KEPT, "rows are compared in time");
     for (; frame < end; frame++)
         for (uint32_t me = 0; me < HONEST; me++) {
             const fazgrond_row *row = &all[me].rows[frame % KEPT];
-            must(is_same_row(row, &all[0].rows[frame % KEPT]), "all have the same rows");
-            must((row->gone & ((1 << HONEST) - 1)) == 0, "nobody who is honest is gone in a row");
+            CHECK_SAY(is_same_row(row, &all[0].rows[frame % KEPT]), "all have the same rows");
+            CHECK_SAY((row->gone & ((1 << HONEST) - 1)) == 0, "nobody who is honest is gone in a row");
             if (all[me].was_given[frame % KEPT])
-                must(row->words[me] == all[me].given[frame % KEPT], "a word stands where it was given");
+                CHECK_SAY(row->words[me] == all[me].given[frame % KEPT], "a word stands where it was given");
         }
     return end;
 }
@@ -467,7 +456,7 @@ static size_t match(uint64_t frames, bool has_liar) {
     memset(pool, 0, POOL * sizeof *pool);
     for (uint32_t me = 0; me < MACHINES; me++)
         open_machine(me);
-    for (uint64_t stood = 0; seen < frames && stood < 400 && !is_wrong; turn++) {
+    for (uint64_t stood = 0; seen < frames && stood < 400 && !checks.is_wrong; turn++) {
         uint64_t was = seen;
         if (turn % 200 == 0) /* a line between two honest machines, which then need a third, or the liar */
             is_cut[0][1] = is_cut[1][0] = turn / 200 % 2 == 1;
@@ -482,11 +471,11 @@ static size_t match(uint64_t frames, bool has_liar) {
         size_t now = memory() - before;
         most = now > most ? now : most;
     }
-    must(seen >= frames, "they play on");
-    must(all[0].epochs > 2, "epochs end");
+    CHECK_SAY(seen >= frames, "they play on");
+    CHECK_SAY(all[0].epochs > 2, "epochs end");
     for (uint32_t me = 0; me < MACHINES; me++)
         close_machine(me);
-    must(memory() < before + SMALL, "all memory is given back");
+    CHECK_SAY(memory() < before + SMALL, "all memory is given back");
     return most;
 }
 
@@ -501,15 +490,15 @@ static void takes_a_state(uint32_t pieces) {
     size_t length, size;
     for (size_t at = 0; at < sizeof bytes; at++)
         bytes[at] = (uint8_t)below(256);
-    must(fazgrond_giver_open(&giver, 7, 0, bytes, sizeof bytes) == FAZGROND_OK && fazgrond_giver_name(&giver, &name) == FAZGROND_OK
-             && fazgrond_taker_open(&taker, &name, sizeof bytes) == FAZGROND_OK,
-         "both ends open");
+    CHECK_SAY(fazgrond_giver_open(&giver, 7, 0, bytes, sizeof bytes) == FAZGROND_OK && fazgrond_giver_name(&giver, &name) == FAZGROND_OK
+                  && fazgrond_taker_open(&taker, &name, sizeof bytes) == FAZGROND_OK,
+              "both ends open");
     size_t before = memory();
     uint64_t honest = number_of(0, 1), liar = number_of(LIAR, 1);
     bool is_whole = false;
-    for (uint32_t round = 0; round < 4 * pieces && !is_whole; round++) {
+    for (uint32_t round = 0; round < 4 * pieces && !is_whole && !checks.is_wrong; round++) {
         uint8_t ask[FAZGROND_DATAGRAM];
-        must(fazgrond_taker_send(&taker, honest, 1, 4, ask, sizeof ask, &size) == FAZGROND_OK, "it asks");
+        CHECK_SAY(fazgrond_taker_send(&taker, honest, 1, 4, ask, sizeof ask, &size) == FAZGROND_OK, "it asks");
         for (uint32_t index = 0; index < 4 && !is_whole; index++)
             if (below(10) > 0 && fazgrond_giver_reply(&giver, honest, 0, ask, size, index, made, sizeof made, &length) == FAZGROND_OK
                 && fazgrond_taker_receive(&taker, honest, made, length, &heard) == FAZGROND_OK)
@@ -517,7 +506,7 @@ static void takes_a_state(uint32_t pieces) {
         for (uint32_t count = 0; count < pieces / 100 && !is_whole; count++, lies++) {
             /* the same piece with other bytes, another place, length or name */
             if (fazgrond_giver_reply(&giver, liar, LIAR, ask, size, below(4), made, sizeof made, &length) != FAZGROND_OK) {
-                must(fazgrond_taker_send(&taker, liar, 1, 4, made, sizeof made, &length) == FAZGROND_OK, "it asks the liar");
+                CHECK_SAY(fazgrond_taker_send(&taker, liar, 1, 4, made, sizeof made, &length) == FAZGROND_OK, "it asks the liar");
                 if (fazgrond_giver_reply(&giver, liar, LIAR, made, length, below(4), made, sizeof made, &length) != FAZGROND_OK)
                     continue;
             }
@@ -527,12 +516,12 @@ static void takes_a_state(uint32_t pieces) {
                 length -= below((uint32_t)length - PACKET_BODY);
             seal(made, length, (seal_key){ liar, 0, 0 });
             if (fazgrond_taker_receive(&taker, liar, made, length, &heard) == FAZGROND_OK)
-                must(heard.what != FAZGROND_STATE_WHOLE, "a state isn't whole by a wrong piece");
+                CHECK_SAY(heard.what != FAZGROND_STATE_WHOLE, "a state isn't whole by a wrong piece");
         }
-        must(memory() == before, "a piece takes no memory");
+        CHECK_SAY(memory() == before, "a piece takes no memory");
     }
-    must(is_whole && fazgrond_taker_bytes(&taker, out, sizeof out) == FAZGROND_OK && memcmp(out, bytes, sizeof bytes) == 0,
-         "the state is whole, and right");
+    CHECK_SAY(is_whole && fazgrond_taker_bytes(&taker, out, sizeof out) == FAZGROND_OK && memcmp(out, bytes, sizeof bytes) == 0,
+              "the state is whole, and right");
     fazgrond_taker_close(&taker);
     fazgrond_giver_close(&giver);
 }
@@ -547,26 +536,26 @@ int main(int count, char **words) {
     seed = first;
     uint64_t frames = wanted / LIES_A_TURN < FRAMES_OF_A_CASE ? wanted / LIES_A_TURN + 300 : FRAMES_OF_A_CASE;
     size_t plain = match(frames, false);
-    ends();
+    checks_end_case();
     of_what = "a liar in the match";
     for (uint64_t at = 0; lies < wanted - wanted / 20; at++) {
         seed = first + at;
         size_t most = match(frames, true);
-        must(most <= plain + plain / 20, "it takes no more memory");
-        ends();
+        CHECK_SAY(most <= plain + plain / 20, "it takes no more memory");
+        checks_end_case();
     }
     of_what = "a state in pieces";
     do {
         takes_a_state(2000);
-        ends();
-    } while (lies < wanted);
+        checks_end_case();
+    } while (lies < wanted && checks.failed == 0);
     printf("%u lies;", (unsigned)lies);
     for (int code = 0; code < CODES; code++)
         if (answered[code] > 0)
             printf(" %d: %u", code, (unsigned)answered[code]);
-    printf("\n%u passed, %u failed\n", passed, failed);
+    printf("\n");
     for (uint32_t me = 0; me < MACHINES; me++)
         free(all[me].line);
     free(pool);
-    return failed > 0;
+    return checks_end();
 }

@@ -1,18 +1,11 @@
 /* What the calls of a peer and of a viewer's line answer where nothing is to be done: on a closed handle, or one of another kind,
  * before the match, with requests that were not taken, with too little room. Says nothing if all is as it has to be. */
+#include "../check.h"
+
 #include <fazgrond.h>
 #include <stdio.h>
 #include <stdlib.h>
 #include <string.h>
-
-#define IS(call, code) is((call), (code), __LINE__)
-
-static void is(int32_t got, int32_t wanted, int line) {
-    if (got != wanted) {
-        fprintf(stderr, "line %d: %ld, not %ld\n", line, (long)got, (long)wanted);
-        exit(1);
-    }
-}
 
 enum { SENDER = 12, KIND = 13, PLAY = 1, VIEWER = 255 };
 
@@ -64,7 +57,7 @@ static void are_closed(fazgrond_peer *peer, fazgrond_session *session) {
     IS(fazgrond_peer_note_settled(peer, session, 1), FAZGROND_IS_CLOSED);
     if (session->full == 0)
         IS(fazgrond_peer_open(peer, session, &match), FAZGROND_IS_CLOSED);
-    is((int32_t)length, 77, __LINE__);
+    IS(length, 77);
 }
 
 /* All calls that need a peer alone. */
@@ -74,8 +67,8 @@ static void is_closed(fazgrond_peer *peer) {
     IS(fazgrond_peer_disconnect(peer, 1), FAZGROND_IS_CLOSED);
     IS(fazgrond_peer_event(peer, &event), FAZGROND_IS_CLOSED);
     IS(fazgrond_peer_stats(peer, 1, &stats), FAZGROND_IS_CLOSED);
-    is(a + b, 10, __LINE__);
-    is((int32_t)length, 77, __LINE__);
+    IS(a + b, 10);
+    IS(length, 77);
 }
 
 static void open_session(fazgrond_session *session, uint32_t me) {
@@ -116,7 +109,7 @@ static void of_another_kind(void) {
     IS((int32_t)fazgrond_take_requests((fazgrond_session *)&peer, requests, 8), 0);
     IS(fazgrond_line_look((fazgrond_line *)&peer, 0, &(fazgrond_line_state){ 0 }), FAZGROND_IS_CLOSED);
     IS(fazgrond_viewer_row((fazgrond_viewer *)&peer, &row), FAZGROND_IS_CLOSED);
-    is(a + b, 10, __LINE__);
+    IS(a + b, 10);
     IS(fazgrond_peer_poll(&peer, &session, 0), FAZGROND_OK);
     fazgrond_peer_close(&peer);
     IS(fazgrond_frame(&session, &a), FAZGROND_OK); /* it stays open */
@@ -244,15 +237,15 @@ static void says(void) {
     uint8_t text[200];
     IS((int32_t)fazgrond_version(), FAZGROND_VERSION);
     size_t whole = fazgrond_text(FAZGROND_OTHER_SESSION, text, sizeof text);
-    is(whole > 10 && whole < sizeof text, 1, __LINE__);
+    IS(whole > 10 && whole < sizeof text, 1);
     uint8_t begin[200];
     memset(begin, '!', sizeof begin);
-    is((int32_t)fazgrond_text(FAZGROND_OTHER_SESSION, begin, 4), (int32_t)whole, __LINE__);
-    is(memcmp(begin, text, 4), 0, __LINE__);
-    is(begin[4], '!', __LINE__);
-    is(fazgrond_text(FAZGROND_OK, text, 0) > 0 && fazgrond_text(FAZGROND_RUNNING, text, 0) > 0, 1, __LINE__);
-    is((int32_t)fazgrond_text(12345, text, sizeof text), 0, __LINE__);
-    is((int32_t)fazgrond_text(-1, text, sizeof text), 0, __LINE__);
+    IS(fazgrond_text(FAZGROND_OTHER_SESSION, begin, 4), whole);
+    IS(memcmp(begin, text, 4), 0);
+    IS(begin[4], '!');
+    IS(fazgrond_text(FAZGROND_OK, text, 0) > 0 && fazgrond_text(FAZGROND_RUNNING, text, 0) > 0, 1);
+    IS(fazgrond_text(12345, text, sizeof text), 0);
+    IS(fazgrond_text(-1, text, sizeof text), 0);
 }
 
 /* What one sends the other hears, or can't open; the number of bytes. */
@@ -274,7 +267,7 @@ static void pass_play(machine *from, machine *to, uint8_t machine, uint32_t now)
         if (bytes[KIND] == PLAY)
             return;
     }
-    is(bytes[KIND], PLAY, __LINE__);
+    IS(bytes[KIND], PLAY);
 }
 
 static void next_event(machine *at, uint32_t code, uint32_t machine) {
@@ -332,7 +325,7 @@ static void before(machine *one, machine *two) {
     IS(sent_to(one, 2, 0, sizeof bytes, &length), FAZGROND_NOTHING);
     for (uint8_t machine = 0; machine < 3; machine++) /* none: there is nobody to whom it could be sealed */
         IS(bye_of(one, machine, sizeof bytes, &length), FAZGROND_NOTHING);
-    is((int32_t)length, 77, __LINE__);
+    IS(length, 77);
     IS(fazgrond_peer_stats(&one->peer, 2, &stats), FAZGROND_INVALID_MACHINE);
     IS(fazgrond_peer_stats(&one->peer, 1, &stats), FAZGROND_OK);
     IS((int32_t)stats.sent, 0); /* a call with too little room counts nothing */
@@ -354,7 +347,7 @@ static void before(machine *one, machine *two) {
     pass(two, one, 0, 0);
     next_event(one, FAZGROND_SYNCHRONIZED, 1);
     IS(bye_of(one, 1, FAZGROND_DATAGRAM - 1, &length), FAZGROND_TOO_SHORT);
-    is((int32_t)length, 77, __LINE__);
+    IS(length, 77);
     polled(one, 16);
     no_event(one); /* a play of the other one has to come, too */
     is_running(one, 0);
@@ -460,7 +453,7 @@ static void after(machine *one, machine *two) {
         polled(one, now);
         if (now == 832) {
             next_event(one, FAZGROND_INTERRUPTED, 1);
-            is(event.disconnect_in >= 4000 && event.disconnect_in <= 4300, 1, __LINE__);
+            IS(event.disconnect_in >= 4000 && event.disconnect_in <= 4300, 1);
         }
         no_event(one);
     }

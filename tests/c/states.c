@@ -1,19 +1,11 @@
 /* States in pieces: what both ends answer, the examples of docs/WIRE.md, and whole transfers over a line that loses, delays, doubles
  * and garbles datagrams, of two machines of which one may give wrong bytes. Says nothing if all is as it has to be. */
 #include "../../lib/sha256.h"
+#include "../check.h"
 
 #include <fazgrond.h>
 #include <stdio.h>
 #include <stdlib.h>
-
-#define IS(got, wanted) is((long long)(got), (long long)(wanted), __LINE__)
-
-static void is(long long got, long long wanted, int line) {
-    if (got != wanted) {
-        fprintf(stderr, "line %d: %lld, not %lld\n", line, got, wanted);
-        exit(1);
-    }
-}
 
 /* Where things stand in a datagram, and how many bytes a piece has beside its own (docs/WIRE.md). */
 enum { SENDER = 12, KIND = 13, LENGTH = 26, PLACE = 62, HEAD = 66 };

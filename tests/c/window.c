@@ -2,6 +2,8 @@
  *
  * The model has all numbers that were taken, as a bit each, and their highest: a number is taken if its bit isn't set and it is no
  * more than 1,024 below the highest. */
+#include "../check.h"
+
 #include <fazgrond.h>
 #include <stdbool.h>
 #include <stdio.h>
@@ -14,17 +16,6 @@ static uint64_t draw(void) {
     drawn ^= drawn << 13;
     drawn ^= drawn >> 7;
     return drawn ^= drawn << 17;
-}
-
-static int failures;
-
-#define IS(what, due) is(__LINE__, #what, (uint64_t)(what), (uint64_t)(due))
-
-static void is(int line, const char *what, uint64_t found, uint64_t due) {
-    if (found != due) {
-        printf("line %d: %s is %llu, not %llu\n", line, what, (unsigned long long)found, (unsigned long long)due);
-        failures++;
-    }
 }
 
 enum { SPAN = 1 << 24, REACH = 1024 };
@@ -85,28 +76,28 @@ static void beside_model(uint64_t base, long numbers) {
             taken++;
         }
     }
-    IS(wrong, 0);
-    IS(window.highest, all.highest);
-    IS(taken > numbers / 8 && taken < numbers, true);
+    CHECK_IS(wrong, 0);
+    CHECK_IS(window.highest, all.highest);
+    CHECK_IS(taken > numbers / 8 && taken < numbers, true);
     free(all.taken);
 }
 
 /* What the oldest and the newest within reach are to each other. */
 static void of_edges(uint64_t high) {
     fazgrond_window window = {0};
-    IS(fazgrond_window_note(&window, high), 1);
-    IS(fazgrond_window_note(&window, high), 0);
-    IS(fazgrond_window_is_new(&window, high - FAZGROND_WINDOW_REACH), 1);
-    IS(fazgrond_window_is_new(&window, high - FAZGROND_WINDOW_REACH - 1), 0);
-    IS(fazgrond_window_note(&window, high - FAZGROND_WINDOW_REACH - 1), 0);
-    IS(fazgrond_window_note(&window, high - FAZGROND_WINDOW_REACH), 1);
-    IS(fazgrond_window_note(&window, high - FAZGROND_WINDOW_REACH), 0);
-    IS(fazgrond_window_note(&window, high), 0);
+    CHECK_IS(fazgrond_window_note(&window, high), 1);
+    CHECK_IS(fazgrond_window_note(&window, high), 0);
+    CHECK_IS(fazgrond_window_is_new(&window, high - FAZGROND_WINDOW_REACH), 1);
+    CHECK_IS(fazgrond_window_is_new(&window, high - FAZGROND_WINDOW_REACH - 1), 0);
+    CHECK_IS(fazgrond_window_note(&window, high - FAZGROND_WINDOW_REACH - 1), 0);
+    CHECK_IS(fazgrond_window_note(&window, high - FAZGROND_WINDOW_REACH), 1);
+    CHECK_IS(fazgrond_window_note(&window, high - FAZGROND_WINDOW_REACH), 0);
+    CHECK_IS(fazgrond_window_note(&window, high), 0);
     for (uint64_t below = FAZGROND_WINDOW_REACH - 1; below > 0; below--)
-        IS(fazgrond_window_note(&window, high - below), 1);
+        CHECK_IS(fazgrond_window_note(&window, high - below), 1);
     for (uint64_t below = 0; below <= FAZGROND_WINDOW_REACH; below++)
-        IS(fazgrond_window_is_new(&window, high - below), 0);
-    IS(window.highest, high);
+        CHECK_IS(fazgrond_window_is_new(&window, high - below), 0);
+    CHECK_IS(window.highest, high);
 }
 
 int main(int argc, char **argv) {
@@ -118,9 +109,9 @@ int main(int argc, char **argv) {
         of_edges(high);
     of_edges(UINT64_MAX);
     fazgrond_window window = {0};
-    IS(fazgrond_window_note(&window, 0), 1);
-    IS(fazgrond_window_note(&window, 0), 0);
-    IS(fazgrond_window_note(&window, UINT64_MAX), 1);
-    IS(fazgrond_window_note(&window, 0), 0);
-    return failures != 0;
+    CHECK_IS(fazgrond_window_note(&window, 0), 1);
+    CHECK_IS(fazgrond_window_note(&window, 0), 0);
+    CHECK_IS(fazgrond_window_note(&window, UINT64_MAX), 1);
+    CHECK_IS(fazgrond_window_note(&window, 0), 0);
+    return checks_end();
 }

@@ -1,18 +1,11 @@
 /* The examples of docs/WIRE.md as peers send and hear them; another program made their tags. And clocks that begin anew after 2^32.
  * Says nothing if all is as it has to be. */
+#include "../check.h"
+
 #include <fazgrond.h>
 #include <stdio.h>
 #include <stdlib.h>
 #include <string.h>
-
-#define IS(got, wanted) is((int64_t)(got), (int64_t)(wanted), __LINE__)
-
-static void is(int64_t got, int64_t wanted, int line) {
-    if (got != wanted) {
-        fprintf(stderr, "line %d: %lld, not %lld\n", line, (long long)got, (long long)wanted);
-        exit(1);
-    }
-}
 
 #define MATCH 0x1122334455667788
 #define DIGEST 0x0123456789abcdef

@@ -3,18 +3,14 @@
 #ifndef FUZZ_GAME_H
 #define FUZZ_GAME_H
 
+#define CHECKS_LEAVE abort()
+#include "../check.h"
+
 #include <fazgrond.h>
 #include <stdbool.h>
 #include <stdio.h>
 #include <stdlib.h>
 #include <string.h>
-
-#define MUST(what) ((what) ? (void)0 : must_fail(__FILE__, __LINE__, #what))
-
-static inline void must_fail(const char *file, int line, const char *what) {
-    fprintf(stderr, "%s:%d: %s\n", file, line, what);
-    abort();
-}
 
 /* The input, which reads as zeros once it is used up. */
 typedef struct input {

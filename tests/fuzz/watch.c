@@ -7,10 +7,11 @@
 #include "../../lib/watch/timeline.h"
 #include "../../lib/sha256.h"
 
+#define CHECKS_LEAVE abort()
+#include "../check.h"
+
 #include <stdlib.h>
 #include <string.h>
-
-#define MUST(condition) ((condition) ? (void)0 : abort())
 
 enum { PLAYERS = 2, FRAMES = 120, FIRST = 4 };
 

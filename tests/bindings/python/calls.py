@@ -336,10 +336,10 @@ def what_is_closed_takes_no_calls():
         assert not it.is_closed
         for copies in [copy.copy, copy.deepcopy, pickle.dumps]:
             raises(TypeError, copies, it)
-        before, held = recorder.closed.total(), it._raw
+        before = recorder.closed.total()
         it.close()
         it.close()
-        assert it.is_closed and recorder.closed.total() == before + 1 and not held.full
+        assert it.is_closed and recorder.closed.total() == before + 1
         for call in calls:
             raises(Closed, call)
         raises(Closed, it.__class__._at, it)

@@ -2,20 +2,15 @@
  * minutes pass in no time. Whoever is begun again plays on, or is told why it doesn't, also if the others stop, leave or are begun again
  * while it comes. It prints nothing if all is right. `coming_back COUNT` draws so many matches: who stops when, and who is begun again. */
 #define _POSIX_C_SOURCE 200809L
+#define CHECKS_OF "%s (%d, %d) at %d ms", of_what, of_one, of_two, now
+#include "../../check.h"
+
 #include <fazgrond.h>
 #include <ggponet.h>
 #include <stdio.h>
 #include <stdlib.h>
 #include <string.h>
 #include <time.h>
-
-#define MUST(what) \
-    do { \
-        if (!(what)) { \
-            fprintf(stderr, "%s (%d, %d) at %d ms, line %d: %s\n", of_what, of_one, of_two, now, __LINE__, #what); \
-            exit(1); \
-        } \
-    } while (0)
 
 enum { MACHINES = 3, WAITING = 4096, MOST = 8192, LATENCY = 40, TURN = 16, SECOND = 1000, TIMEOUT = 3 * SECOND, NUMBER = 7 };
 

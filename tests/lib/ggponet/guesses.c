@@ -1,18 +1,12 @@
 /* Two sessions in one process, which guess what each other's player does. Their helper is asked in the same thread, after each
  * turn. Each settled state must be that of a plain run, with fewer frames played again than without guesses. A helper
  * that can't run its jobs must change nothing. It prints nothing if all is right. guesses PORT */
+#include "../../check.h"
+
 #include <ggponet.h>
 #include <stdio.h>
 #include <stdlib.h>
 #include <string.h>
-
-#define MUST(what) \
-    do { \
-        if (!(what)) { \
-            fprintf(stderr, "line %d: %s\n", __LINE__, #what); \
-            exit(1); \
-        } \
-    } while (0)
 
 enum { FRAMES = 600, SPEED = 20, TURN = 17, LAG = 60, JOBS = 4 };
 

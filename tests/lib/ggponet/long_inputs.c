@@ -1,19 +1,13 @@
 /* Two sessions in one process, whose players' inputs have 12 bytes, over a line that loses and delays. Both come to the state of a plain
  * run, and then one leaves in the middle of a frame's way: what each has settled has of the other's input all words or none. It prints
  * nothing if all is right. long_inputs PORT */
+#include "../../check.h"
+
 #include <fazgrond.h>
 #include <ggponet.h>
 #include <stdio.h>
 #include <stdlib.h>
 #include <string.h>
-
-#define MUST(what) \
-    do { \
-        if (!(what)) { \
-            fprintf(stderr, "line %d: %s\n", __LINE__, #what); \
-            exit(1); \
-        } \
-    } while (0)
 
 enum { FRAMES = 300, SPEED = 100, INPUT = 12, WORDS = 3, PLAYERS = 2 };
 

@@ -1,17 +1,11 @@
 /* What ggponet.c refuses, and a sync test of a game that has a counter beside its state. It prints nothing if all is right. */
+#include "../../check.h"
+
 #include <ggponet.h>
 #include <stdio.h>
 #include <stdlib.h>
 #include <string.h>
 #include <sys/types.h>
-
-#define MUST(what) \
-    do { \
-        if (!(what)) { \
-            fprintf(stderr, "line %d: %s\n", __LINE__, #what); \
-            exit(1); \
-        } \
-    } while (0)
 
 /* A game of one number, which may have a counter beside its state, and can be told to fail. */
 static struct {

@@ -1,17 +1,11 @@
 /* Spectators in one process with the two players of their match. They must step by the inputs of a plain run, and be told the
  * events that they should; whatever they do, the players must play on. It prints nothing if all is right. spectators PORT */
+#include "../../check.h"
+
 #include <ggponet.h>
 #include <stdio.h>
 #include <stdlib.h>
 #include <string.h>
-
-#define MUST(what) \
-    do { \
-        if (!(what)) { \
-            fprintf(stderr, "line %d: %s\n", __LINE__, #what); \
-            exit(1); \
-        } \
-    } while (0)
 
 enum { FRAMES = 400, PLAYERS = 2, VIEWERS = 3, ALL = PLAYERS + VIEWERS, TIMEOUT = 5000, HOST = 0 };
 

@@ -3,19 +3,13 @@
  * one means another match: both must be told. Then one gives no inputs, so that the other has to wait: its log must stand too,
  * and ggpo_idle show what comes. Then they play again and again on the same ports, without a word of who arranges it. At last what no
  * match can have is refused. It prints nothing if all is right. two_sessions PORT */
+#include "../../check.h"
+
 #include <fazgrond.h>
 #include <ggponet.h>
 #include <stdio.h>
 #include <stdlib.h>
 #include <string.h>
-
-#define MUST(what) \
-    do { \
-        if (!(what)) { \
-            fprintf(stderr, "line %d: %s\n", __LINE__, #what); \
-            exit(1); \
-        } \
-    } while (0)
 
 enum { FRAMES = 400, SPEED = 100 };
 

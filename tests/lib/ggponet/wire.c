@@ -1,19 +1,13 @@
 /* Sessions in one process whose wire is a list in memory, which loses datagrams, brings some twice, and all of them late and in another
  * order. Three machines with four players, and a spectator, must step by the inputs of a plain run, as they do over sockets; so must a
  * machine that was stopped and comes back, also if all three guess. Then what is refused. It prints nothing if all is right. wire PORT */
+#include "../../check.h"
+
 #include <fazgrond.h>
 #include <ggponet.h>
 #include <stdio.h>
 #include <stdlib.h>
 #include <string.h>
-
-#define MUST(what) \
-    do { \
-        if (!(what)) { \
-            fprintf(stderr, "line %d: %s\n", __LINE__, #what); \
-            exit(1); \
-        } \
-    } while (0)
 
 enum { PLAYERS = 4, MACHINES = 3, VIEWER = MACHINES, ALL, FRAMES = 400, MOST = 5000, WAITING = 512, LOST = 20, TWICE = 10,
        LATE = 12, JOBS = 4, HELD = 12, ROWS = 8 };

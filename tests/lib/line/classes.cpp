@@ -1,21 +1,12 @@
 // Two machines with a line in one process, by the classes. It prints nothing if all is right.
+#include "../../check.h"
 #include "faz_line.hpp"
 
 #include <chrono>
-#include <cstdlib>
 #include <cstring>
-#include <iostream>
 #include <thread>
 
 using namespace fazgrond::online;
-
-#define MUST(what) \
-    do { \
-        if (!(what)) { \
-            std::cerr << "line " << __LINE__ << ": " << #what << "\n"; \
-            std::exit(1); \
-        } \
-    } while (0)
 
 static std::uint32_t millis() {
     using namespace std::chrono;

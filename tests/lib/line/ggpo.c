@@ -3,6 +3,7 @@
  * stops, and comes back over another line. It prints nothing if all is right. */
 #define _POSIX_C_SOURCE 200809L
 
+#include "../../check.h"
 #include "faz_line.h"
 
 #include <ggponet.h>
@@ -10,14 +11,6 @@
 #include <stdlib.h>
 #include <string.h>
 #include <time.h>
-
-#define MUST(what) \
-    do { \
-        if (!(what)) { \
-            fprintf(stderr, "line %d: %s\n", __LINE__, #what); \
-            exit(1); \
-        } \
-    } while (0)
 
 enum { PLAYERS = 2, VIEWER = 2, ALL = 3, FRAMES = 300, MOST = 3000, SPEED = 10, PATIENCE = 20000 /* turns */ };
 

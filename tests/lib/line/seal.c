@@ -1,9 +1,10 @@
-/* Sealed datagrams, forged ones, and those that come again or in another order; and what sealing costs: seal SEALED
+/* Sealed datagrams, forged ones, and those that come again or in another order; and what sealing costs: tests/seal SEALED
  *
- * SEALED is what tests/lib/line/xchacha.py says for the key and the counter below. */
+ * SEALED is what tests/xchacha.py says for the key and the counter below. */
 #define _POSIX_C_SOURCE 200809L
 
 #include "../../../lib/line/seal.h"
+#include "../../check.h"
 
 #include <sodium.h>
 #include <stdio.h>
@@ -19,38 +20,27 @@ static uint64_t draw(void) {
     return drawn ^= drawn << 17;
 }
 
-static int failures;
-
-#define IS(what, due) is(__LINE__, #what, (uint64_t)(what), (uint64_t)(due))
-
-static void is(int line, const char *what, uint64_t found, uint64_t due) {
-    if (found != due) {
-        printf("line %d: %s is %llu, not %llu\n", line, what, (unsigned long long)found, (unsigned long long)due);
-        failures++;
-    }
-}
-
 /* ---- datagrams */
 
 static void open_two(seal *one, seal *two) {
     uint8_t open[2][SEAL_KEY], secret[2][SEAL_KEY];
     faz_line_seal_draw(open[0], secret[0]);
     faz_line_seal_draw(open[1], secret[1]);
-    IS(faz_line_seal_open(one, true, open[0], secret[0], open[1]), true);
-    IS(faz_line_seal_open(two, false, open[1], secret[1], open[0]), true);
+    CHECK_IS(faz_line_seal_open(one, true, open[0], secret[0], open[1]), true);
+    CHECK_IS(faz_line_seal_open(two, false, open[1], secret[1], open[0]), true);
 }
 
 static void of_pairs(void) {
     seal one, two, three, four;
     open_two(&one, &two);
     open_two(&three, &four);
-    IS(one.number == two.number, true);
-    IS(one.number == three.number, false);
-    IS(memcmp(one.ours, two.theirs, SEAL_KEY), 0);
-    IS(memcmp(one.ours, two.ours, SEAL_KEY) == 0, false);
+    CHECK_IS(one.number == two.number, true);
+    CHECK_IS(one.number == three.number, false);
+    CHECK_IS(memcmp(one.ours, two.theirs, SEAL_KEY), 0);
+    CHECK_IS(memcmp(one.ours, two.ours, SEAL_KEY) == 0, false);
     uint8_t zero[SEAL_KEY] = {0}, open[SEAL_KEY], secret[SEAL_KEY];
     faz_line_seal_draw(open, secret);
-    IS(faz_line_seal_open(&four, true, open, secret, zero), false);
+    CHECK_IS(faz_line_seal_open(&four, true, open, secret, zero), false);
 }
 
 static void as_another_does(const char *key, const char *sealed) {
@@ -61,10 +51,7 @@ static void as_another_does(const char *key, const char *sealed) {
     one.sent = 0x0102030405;
     size_t length = faz_line_seal_put(&one, out, (const uint8_t *)"a play", 6);
     sodium_bin2hex(hex, sizeof hex, out, length);
-    if (strcmp(hex, sealed) != 0) {
-        printf("sealed %s\nnot    %s\n", hex, sealed);
-        failures++;
-    }
+    CHECK_SAY(strcmp(hex, sealed) == 0, "sealed %s\nnot    %s", hex, sealed);
 }
 
 static void of_forgers(void) {
@@ -75,21 +62,21 @@ static void of_forgers(void) {
         size_t length = (size_t)n % 90;
         randombytes_buf(bytes, length);
         size_t size = faz_line_seal_put(&one, sealed, bytes, length);
-        IS(size, length + 24);
-        IS(sealed[0], 0xf1);
+        CHECK_IS(size, length + 24);
+        CHECK_IS(sealed[0], 0xf1);
         for (size_t bit = 0; bit < 8 * size; bit += 1 + (size_t)(draw() % 40)) {
             memcpy(broken, sealed, size);
             broken[bit / 8] ^= (uint8_t)(1 << (bit % 8));
             seal before = two;
-            IS(faz_line_seal_take(&two, out, broken, size) == SEAL_OK, false);
-            IS(memcmp(&before, &two, sizeof two), 0); /* nor is a counter of its own taken from it */
+            CHECK_IS(faz_line_seal_take(&two, out, broken, size) == SEAL_OK, false);
+            CHECK_IS(memcmp(&before, &two, sizeof two), 0); /* nor is a counter of its own taken from it */
         }
         for (size_t shorter = 0; shorter < size; shorter += 7)
-            IS(faz_line_seal_take(&two, out, sealed, shorter) == SEAL_OK, false);
-        IS(faz_line_seal_take(&one, out, sealed, size) == SEAL_OK, false); /* nobody takes its own */
-        IS(faz_line_seal_take(&two, out, sealed, size), SEAL_OK);
-        IS(memcmp(out, bytes, length), 0);
-        IS(faz_line_seal_take(&two, out, sealed, size), SEAL_AGAIN);
+            CHECK_IS(faz_line_seal_take(&two, out, sealed, shorter) == SEAL_OK, false);
+        CHECK_IS(faz_line_seal_take(&one, out, sealed, size) == SEAL_OK, false); /* nobody takes its own */
+        CHECK_IS(faz_line_seal_take(&two, out, sealed, size), SEAL_OK);
+        CHECK_IS(memcmp(out, bytes, length), 0);
+        CHECK_IS(faz_line_seal_take(&two, out, sealed, size), SEAL_AGAIN);
     }
 }
 
@@ -103,7 +90,7 @@ static void of_orders(void) {
     int came[MANY] = {0}, taken = 0;
     open_two(&one, &two);
     for (uint32_t n = 0; n < MANY; n++)
-        IS(faz_line_seal_put(&one, sealed[n], (const uint8_t *)&n, sizeof n), 28);
+        CHECK_IS(faz_line_seal_put(&one, sealed[n], (const uint8_t *)&n, sizeof n), 28);
     for (int n = 0; n < 3 * MANY; n++)
         order[n] = n % MANY;
     for (int n = 3 * MANY - 1; n > 0; n--) {
@@ -113,10 +100,10 @@ static void of_orders(void) {
     }
     for (int n = 0; n < 3 * MANY; n++) {
         bool is_first = came[order[n]]++ == 0;
-        IS(faz_line_seal_take(&two, out, sealed[order[n]], 28), is_first ? SEAL_OK : SEAL_AGAIN);
+        CHECK_IS(faz_line_seal_take(&two, out, sealed[order[n]], 28), is_first ? SEAL_OK : SEAL_AGAIN);
         taken += is_first;
     }
-    IS(taken, MANY);
+    CHECK_IS(taken, MANY);
 }
 
 static void of_notes(void) {
@@ -124,17 +111,17 @@ static void of_notes(void) {
     uint8_t note[200], again[200], out[200], text[] = "c candidate";
     open_two(&one, &two);
     size_t length = faz_line_seal_note(&one, note, text, sizeof text);
-    IS(length, sizeof text + NOTE_OVERHEAD);
-    IS(faz_line_seal_read(&two, out, note, length), true);
-    IS(memcmp(out, text, sizeof text), 0);
-    IS(faz_line_seal_read(&one, out, note, length), false);
-    IS(faz_line_seal_note(&one, again, text, sizeof text), length);
-    IS(memcmp(note, again, length) == 0, false);
+    CHECK_IS(length, sizeof text + NOTE_OVERHEAD);
+    CHECK_IS(faz_line_seal_read(&two, out, note, length), true);
+    CHECK_IS(memcmp(out, text, sizeof text), 0);
+    CHECK_IS(faz_line_seal_read(&one, out, note, length), false);
+    CHECK_IS(faz_line_seal_note(&one, again, text, sizeof text), length);
+    CHECK_IS(memcmp(note, again, length) == 0, false);
     for (size_t at = 0; at < length; at++) {
         note[at] ^= 1;
-        IS(faz_line_seal_read(&two, out, note, length), false);
+        CHECK_IS(faz_line_seal_read(&two, out, note, length), false);
         note[at] ^= 1;
-        IS(faz_line_seal_read(&two, out, note, at), false);
+        CHECK_IS(faz_line_seal_read(&two, out, note, at), false);
     }
 }
 
@@ -143,9 +130,9 @@ static void of_counters(void) {
     uint8_t sealed[40], out[40];
     open_two(&one, &two);
     one.sent = (UINT64_C(1) << 56) - 1;
-    IS(faz_line_seal_put(&one, sealed, NULL, 0), 24);
-    IS(faz_line_seal_take(&two, out, sealed, 24), SEAL_OK);
-    IS(faz_line_seal_put(&one, sealed, NULL, 0), 0);
+    CHECK_IS(faz_line_seal_put(&one, sealed, NULL, 0), 24);
+    CHECK_IS(faz_line_seal_take(&two, out, sealed, 24), SEAL_OK);
+    CHECK_IS(faz_line_seal_put(&one, sealed, NULL, 0), 0);
 }
 
 /* ---- what it costs */
@@ -166,10 +153,10 @@ static void costs(size_t length) {
         faz_line_seal_put(&one, sealed + n * ROOM, bytes, length);
     double put = micros();
     for (size_t n = 0; n < MANY; n++)
-        IS(faz_line_seal_take(&two, out, sealed + n * ROOM, length + SEAL_OVERHEAD), SEAL_OK);
+        CHECK_IS(faz_line_seal_take(&two, out, sealed + n * ROOM, length + SEAL_OVERHEAD), SEAL_OK);
     double taken = micros();
     for (size_t n = 0; n < MANY; n++)
-        IS(faz_line_seal_take(&two, out, sealed + n * ROOM, length + SEAL_OVERHEAD) == SEAL_OK, false);
+        CHECK_IS(faz_line_seal_take(&two, out, sealed + n * ROOM, length + SEAL_OVERHEAD) == SEAL_OK, false);
     double again = micros();
     printf("%zu bytes: %d more, %.2f us to seal, %.2f to open, %.3f to refuse one that came before\n", length, SEAL_OVERHEAD,
            (put - begun) / MANY, (taken - put) / MANY, (again - taken) / MANY);
@@ -187,7 +174,5 @@ int main(int argc, char **argv) {
     of_counters();
     costs(45);
     costs(1110);
-    if (failures != 0)
-        printf("%d wrong\n", failures);
-    return failures != 0;
+    return checks_end();
 }

@@ -2,6 +2,7 @@
  * forked. HAS_RELAYS is 1, or 0 for lines on a LAN alone. */
 #define _POSIX_C_SOURCE 200809L
 
+#include "../../check.h"
 #include "faz_line.h"
 
 #include <stdio.h>
@@ -10,25 +11,14 @@
 #include <time.h>
 #include <unistd.h>
 
-static int failures;
-
-static void is(int line, bool holds) {
-    if (!holds) {
-        printf("line %d\n", line);
-        failures++;
-    }
-}
-
-#define IS(what) is(__LINE__, what)
-
 static bool opens(const faz_line_settings *settings) {
     const char *why = "";
     faz_line *line = faz_line_open(settings, &why);
     if (line == NULL) {
-        IS(why != NULL && strlen(why) > 5);
+        CHECK(why != NULL && strlen(why) > 5);
         return false;
     }
-    IS(why == NULL);
+    CHECK(why == NULL);
     faz_line_close(line);
     return true;
 }
@@ -52,24 +42,24 @@ static faz_line_state after(faz_line *line, uint32_t from, uint32_t to, bool is_
 static void waits(void) {
     faz_line_keys keys, other;
     const char *why;
-    IS(faz_line_draw(&keys) && faz_line_draw(&other));
+    CHECK(faz_line_draw(&keys) && faz_line_draw(&other));
     faz_line *line = faz_line_open(&(faz_line_settings){.me = 1, .other = 0, .keys = &keys, .their = other.open}, &why);
     faz_line_state state = after(line, 0, 60000, false);
-    IS(state.stage == FAZ_LINE_LOOKING && state.generation == 1 && state.silence == 0 && state.sent == 0);
+    CHECK(state.stage == FAZ_LINE_LOOKING && state.generation == 1 && state.silence == 0 && state.sent == 0);
     state = after(line, 60000, 61900, true);
-    IS(state.stage == FAZ_LINE_LOOKING && state.generation == 1);
+    CHECK(state.stage == FAZ_LINE_LOOKING && state.generation == 1);
     state = after(line, 61900, 65900, true);
-    IS(state.stage == FAZ_LINE_LOOKING && state.generation == 2);
+    CHECK(state.stage == FAZ_LINE_LOOKING && state.generation == 2);
     state = after(line, 65900, 67000, true);
-    IS(state.stage == FAZ_LINE_BLOCKED && state.generation == 3 && state.sent == 0);
+    CHECK(state.stage == FAZ_LINE_BLOCKED && state.generation == 3 && state.sent == 0);
     faz_line_close(line);
 }
 
 /* By a relay alone no line is opened where there are none. */
 static void hides(void) {
     faz_line_keys keys, other;
-    IS(faz_line_draw(&keys) && faz_line_draw(&other));
-    IS(opens(&(faz_line_settings){.other = 1, .keys = &keys, .their = other.open, .relay_only = true}) == HAS_RELAYS);
+    CHECK(faz_line_draw(&keys) && faz_line_draw(&other));
+    CHECK(opens(&(faz_line_settings){.other = 1, .keys = &keys, .their = other.open, .relay_only = true}) == HAS_RELAYS);
 }
 
 static void turn_both(faz_line *const lines[2], uint32_t now) {
@@ -78,7 +68,7 @@ static void turn_both(faz_line *const lines[2], uint32_t now) {
     for (int at = 0; at < 2; at++) {
         faz_line_turn(lines[at], now);
         while (faz_line_signal(lines[at], bytes, sizeof bytes, &length))
-            IS(faz_line_signalled(lines[1 - at], bytes, length));
+            CHECK(faz_line_signalled(lines[1 - at], bytes, length));
     }
     nanosleep(&(struct timespec){.tv_nsec = 1000000}, NULL);
 }
@@ -107,12 +97,12 @@ static void open_both(faz_line *lines[2]) {
     uint8_t theirs[2][FAZ_LINE_KEY];
     const char *why;
     for (int at = 0; at < 2; at++) {
-        IS(faz_line_draw(&keys[at]));
+        CHECK(faz_line_draw(&keys[at]));
         memcpy(theirs[1 - at], keys[at].open, FAZ_LINE_KEY);
     }
     for (uint32_t at = 0; at < 2; at++) {
         lines[at] = faz_line_open(&(faz_line_settings){.me = at, .other = 1 - at, .keys = &keys[at], .their = theirs[at]}, &why);
-        IS(lines[at] != NULL);
+        CHECK(lines[at] != NULL);
     }
 }
 
@@ -130,15 +120,15 @@ static void forks(void) {
     pid_t child = fork();
     if (child == 0)
         use_forked(lines[0], now);
-    IS(child > 0 && waitpid(child, &status, 0) == child && status == 0);
+    CHECK(child > 0 && waitpid(child, &status, 0) == child && status == 0);
     for (uint32_t until = now + 100; now < until; now++) {
-        IS(faz_line_send(lines[0], bytes, 10));
+        CHECK(faz_line_send(lines[0], bytes, 10));
         turn_both(lines, now);
         while (faz_line_receive(lines[1], bytes, sizeof bytes, &length))
             came++;
     }
     faz_line_look(lines[1], &state);
-    IS(came >= 99 && state.again == 0 && state.forged == 0);
+    CHECK(came >= 99 && state.again == 0 && state.forged == 0);
     faz_line_close(lines[0]);
     faz_line_close(lines[1]);
 }
@@ -150,50 +140,50 @@ int main(void) {
     size_t length;
     memset(longer, 'x', sizeof longer - 1);
     longer[sizeof longer - 1] = 0;
-    IS(faz_line_draw(&keys));
-    IS(faz_line_draw(&other));
-    IS(memcmp(keys.open, other.open, FAZ_LINE_KEY) != 0);
+    CHECK(faz_line_draw(&keys));
+    CHECK(faz_line_draw(&other));
+    CHECK(memcmp(keys.open, other.open, FAZ_LINE_KEY) != 0);
     const faz_line_settings good = {.me = 0, .other = 1, .keys = &keys, .their = other.open};
     faz_line_settings bad = good;
-    bad.keys = NULL, IS(!opens(&bad)), bad = good;
-    bad.their = NULL, IS(!opens(&bad)), bad = good;
-    bad.other = 0, IS(!opens(&bad)), bad = good;
-    bad.other = 8, IS(!opens(&bad)), bad = good;
-    bad.me = 255, IS(!opens(&bad)), bad = good;
-    bad.stun = longer, IS(!opens(&bad)), bad = good;
-    bad.relay_count = FAZ_LINE_RELAYS + 1, IS(!opens(&bad)), bad = good;
-    bad.relay_count = 1, IS(!opens(&bad));
-    bad.relays[0] = (faz_line_relay){"203.0.113.10", 3478, longer, "b", false}, IS(!opens(&bad)), bad = good;
-    IS(memcmp(keys.secret, none.secret, FAZ_LINE_KEY) != 0); /* nothing of that took the keys */
+    bad.keys = NULL, CHECK(!opens(&bad)), bad = good;
+    bad.their = NULL, CHECK(!opens(&bad)), bad = good;
+    bad.other = 0, CHECK(!opens(&bad)), bad = good;
+    bad.other = 8, CHECK(!opens(&bad)), bad = good;
+    bad.me = 255, CHECK(!opens(&bad)), bad = good;
+    bad.stun = longer, CHECK(!opens(&bad)), bad = good;
+    bad.relay_count = FAZ_LINE_RELAYS + 1, CHECK(!opens(&bad)), bad = good;
+    bad.relay_count = 1, CHECK(!opens(&bad));
+    bad.relays[0] = (faz_line_relay){"203.0.113.10", 3478, longer, "b", false}, CHECK(!opens(&bad)), bad = good;
+    CHECK(memcmp(keys.secret, none.secret, FAZ_LINE_KEY) != 0); /* nothing of that took the keys */
 
-    IS(opens(&good));
-    IS(memcmp(&keys, &none, sizeof keys) == 0);
-    IS(!opens(&good)); /* they are good for one line */
-    IS(faz_line_draw(&keys));
+    CHECK(opens(&good));
+    CHECK(memcmp(&keys, &none, sizeof keys) == 0);
+    CHECK(!opens(&good)); /* they are good for one line */
+    CHECK(faz_line_draw(&keys));
     bad.their = none.open;
-    IS(!opens(&bad));
+    CHECK(!opens(&bad));
 
     const char *why;
     faz_line_state state;
-    IS(faz_line_draw(&keys));
+    CHECK(faz_line_draw(&keys));
     faz_line *line = faz_line_open(&good, &why);
-    IS(line != NULL);
-    IS(!faz_line_send(line, bytes, 10)); /* there is no way yet */
-    IS(!faz_line_receive(line, bytes, sizeof bytes, &length));
-    IS(!faz_line_signalled(line, bytes, 200));
-    IS(!faz_line_signalled(line, bytes, 0));
-    IS(!faz_line_signal(line, bytes, FAZ_LINE_SIGNAL - 1, &length));
-    IS(!faz_line_relays(line, good.relays, 1));
-    IS(faz_line_relays(line, good.relays, 0));
+    CHECK(line != NULL);
+    CHECK(!faz_line_send(line, bytes, 10)); /* there is no way yet */
+    CHECK(!faz_line_receive(line, bytes, sizeof bytes, &length));
+    CHECK(!faz_line_signalled(line, bytes, 200));
+    CHECK(!faz_line_signalled(line, bytes, 0));
+    CHECK(!faz_line_signal(line, bytes, FAZ_LINE_SIGNAL - 1, &length));
+    CHECK(!faz_line_relays(line, good.relays, 1));
+    CHECK(faz_line_relays(line, good.relays, 0));
     faz_line_turn(line, UINT32_MAX);
     faz_line_turn(line, 5); /* the clock begins anew */
     faz_line_look(line, &state);
-    IS(state.stage == FAZ_LINE_LOOKING && state.way == FAZ_LINE_NO_WAY && state.generation == 1 && state.silence == 6);
-    IS(state.forged == 2);
+    CHECK(state.stage == FAZ_LINE_LOOKING && state.way == FAZ_LINE_NO_WAY && state.generation == 1 && state.silence == 6);
+    CHECK(state.forged == 2);
     faz_line_close(line);
     faz_line_close(NULL);
     waits();
     hides();
     forks();
-    return failures != 0;
+    return checks_end();
 }

@@ -3,6 +3,7 @@
 
 #include "faz_line.h"
 #include "../../../lib/line/seal.h"
+#include "../../check.h"
 
 #include <arpa/inet.h>
 #include <ifaddrs.h>
@@ -22,14 +23,7 @@ typedef struct address {
 } address;
 
 static address addresses[ADDRESSES];
-static int count, failures;
-
-static void check(bool is_so, const char *what, const char *told) {
-    if (is_so)
-        return;
-    printf("failed: %s\n%s", what, told);
-    failures++;
-}
+static int count;
 
 static void find_addresses(void) {
     struct ifaddrs *all = NULL;
@@ -83,12 +77,12 @@ static void tell(const faz_line_settings *how, char told[ROOM]) {
     settings.their = theirs.open;
     settings.other = 1;
     faz_line *line = faz_line_open(&settings, &why);
-    check(line != NULL, "a line", "");
+    CHECK_SAY(line != NULL, "a line");
     *told = 0;
     for (uint32_t now = 0; line != NULL && now < MILLISECONDS && strstr(told, "\ne") == NULL; now++) {
         faz_line_turn(line, now);
         while (faz_line_signal(line, bytes, sizeof bytes, &length)) {
-            check(faz_line_seal_read(&other, (uint8_t *)inside, bytes, length), "a signal is read", "");
+            CHECK_SAY(faz_line_seal_read(&other, (uint8_t *)inside, bytes, length), "a signal is read");
             for (char *at = inside + 4; at < inside + length - NOTE_OVERHEAD; at += strlen(at) + 1)
                 strcat(strcat(told, at), "\n");
         }
@@ -107,14 +101,15 @@ int main(int words, char **word) {
         if (relay_at(family) != NULL)
             settings.relays[settings.relay_count++] = (faz_line_relay){relay_at(family), (uint16_t)atoi(word[1]), word[2], word[3], false};
     tell(&settings, told);
-    check(found_in(told) > 0 && strstr(told, "203.0.113.10 50000 typ relay") != NULL, "a line tells this machine's addresses", told);
+    CHECK_SAY(found_in(told) > 0 && strstr(told, "203.0.113.10 50000 typ relay") != NULL,
+              "a line tells this machine's addresses:\n%s", told);
     settings.relay_only = true;
     tell(&settings, hidden);
-    check(found_in(hidden) == 0, "by a relay alone this machine's address is told", hidden);
-    check(strstr(hidden, "203.0.113.10 50000 typ relay raddr 0.0.0.0 rport 0\n") != NULL, "a place of IPv4", hidden);
+    CHECK_SAY(found_in(hidden) == 0, "by a relay alone this machine's address is told:\n%s", hidden);
+    CHECK_SAY(strstr(hidden, "203.0.113.10 50000 typ relay raddr 0.0.0.0 rport 0\n") != NULL, "a place of IPv4:\n%s", hidden);
     if (strstr(told, "2001:db8::a0") != NULL)
-        check(strstr(hidden, "2001:db8::a0 50000 typ relay raddr 0.0.0.0 rport 0\n") != NULL, "a place of IPv6", hidden);
+        CHECK_SAY(strstr(hidden, "2001:db8::a0 50000 typ relay raddr 0.0.0.0 rport 0\n") != NULL, "a place of IPv6:\n%s", hidden);
     else
         puts("skipped: a place of IPv6 (this machine has none)");
-    return failures != 0;
+    return checks_end();
 }

@@ -1,5 +1,6 @@
 /* How often networks may ask the door, in a time of the test's own. */
 #include "../../../programs/door/budget.h"
+#include "../../check.h"
 
 #include <stdio.h>
 
@@ -7,14 +8,6 @@ enum { TRIES = 20, OTHERS = 1000 };
 #define SECOND INT64_C(1000000000)
 
 static budget asked;
-static int failed;
-
-static void check(bool is_so, const char *what) {
-    if (is_so)
-        return;
-    printf("failed: %s\n", what);
-    failed++;
-}
 
 static bool may_ask(const char *address, int64_t now) {
     networks of;
@@ -43,10 +36,10 @@ static int allowed_elsewhere(int64_t now) {
 
 static void check_address(const char *address, const char *same, const char *other) {
     budget_begin(&asked, TRIES);
-    check(allowed(address, 2 * TRIES, SECOND) == TRIES, address);
-    check(allowed(same, 1, SECOND) == 0 && allowed(other, 2 * TRIES, SECOND) == TRIES, same);
-    check(allowed(address, 2, 4 * SECOND) == 1, "tries come back one by one");
-    check(allowed(address, 2 * TRIES, 70 * SECOND) == TRIES, "and all in a minute");
+    CHECK_SAY(allowed(address, 2 * TRIES, SECOND) == TRIES, "%s", address);
+    CHECK_SAY(allowed(same, 1, SECOND) == 0 && allowed(other, 2 * TRIES, SECOND) == TRIES, "%s", same);
+    CHECK_SAY(allowed(address, 2, 4 * SECOND) == 1, "tries come back one by one");
+    CHECK_SAY(allowed(address, 2 * TRIES, 70 * SECOND) == TRIES, "and all in a minute");
 }
 
 /* A host that keeps its plate pays a part of a try; and a whole /32 can't keep all plates in the minute for which each is kept. */
@@ -58,13 +51,13 @@ static void check_parts(void) {
     networks_of(&of, "192.0.2.7");
     for (int at = 0; at < 1000; at++)
         count += budget_take(&asked, &of, true, SECOND);
-    check(count == 80 && !may_ask("192.0.2.7", SECOND), "what is kept is counted");
+    CHECK_SAY(count == 80 && !may_ask("192.0.2.7", SECOND), "what is kept is counted");
     for (int at = count = 0; at < 65536; at++) {
         snprintf(address, sizeof address, "2001:db8:%x::1", at);
         networks_of(&of, address);
         count += budget_take(&asked, &of, true, SECOND);
     }
-    check(count == 20480, "what a /32 keeps");
+    CHECK_SAY(count == 20480, "what a /32 keeps");
 }
 
 /* Each address of a network asks twice, and there are many: `what` has a place for a number below 65,536. */
@@ -77,8 +70,8 @@ static void check_crowd(const char *what, int addresses, int due) {
             snprintf(address, sizeof address, what, at);
             count += may_ask(address, SECOND);
         }
-    check(count == due, what);
-    check(allowed_elsewhere(SECOND) == OTHERS, "others pay nothing of that");
+    CHECK_SAY(count == due, "%s", what);
+    CHECK_SAY(allowed_elsewhere(SECOND) == OTHERS, "others pay nothing of that");
 }
 
 /* Far more networks than are remembered ask once each. Whose tries are all gone has none meanwhile, and nobody is refused for others. */
@@ -86,14 +79,14 @@ static void check_memory(void) {
     char address[64];
     int refused = 0, given = 0;
     budget_begin(&asked, TRIES);
-    check(allowed("192.0.2.7", TRIES, SECOND) == TRIES, "an address");
+    CHECK_SAY(allowed("192.0.2.7", TRIES, SECOND) == TRIES, "an address");
     for (int at = 0; at < 2 * BUDGET_SETS * BUDGET_WAYS; at++) {
         snprintf(address, sizeof address, "%d.%d.%d.1", 1 + at / 65536, at / 256 % 256, at % 256);
         refused += !may_ask(address, SECOND);
         given += at % 1000 == 0 && may_ask("192.0.2.7", SECOND);
     }
-    check(refused == 0, "who never asked may");
-    check(given == 0, "and who has asked too often isn't forgotten");
+    CHECK_SAY(refused == 0, "who never asked may");
+    CHECK_SAY(given == 0, "and who has asked too often isn't forgotten");
 }
 
 int main(void) {
@@ -107,5 +100,5 @@ int main(void) {
     check_crowd("2001:db8:1:%x::1", 65536, 16 * TRIES);
     check_crowd("2001:db8:%x::1", 65536, 256 * TRIES);
     check_memory();
-    return failed != 0;
+    return checks_end();
 }

@@ -4,6 +4,7 @@
 #define _POSIX_C_SOURCE 200809L
 
 #include "../../../lib/lobby/inside.h"
+#include "../../check.h"
 
 #include <nats/nats.h>
 #include <sodium.h>
@@ -29,17 +30,9 @@ static struct {
     natsSubscription *all;
     natsMsg *kept[KEPT];
     size_t count;
-    int failed;
     bool lasts, stays_open; /* as the settings have them */
     char nobody[BROKER_SUBJECT]; /* an inbox that no machine hears */
 } self;
-
-static void check(bool is_so, const char *what) {
-    if (is_so)
-        return;
-    printf("failed: %s\n", what);
-    self.failed++;
-}
 
 static uint32_t now(void) {
     struct timespec time;
@@ -99,14 +92,14 @@ static void open_host(uint32_t players, bool asks) {
                                    .stays_open = self.stays_open};
     memset(self.told, 0, sizeof self.told);
     self.lobby[0] = faz_lobby_host(&settings, &why);
-    check(self.lobby[0] != NULL && comes_to(0, FAZ_LOBBY_MEETING), "a host");
+    CHECK_SAY(self.lobby[0] != NULL && comes_to(0, FAZ_LOBBY_MEETING), "a host");
 }
 
 static void open_friend(int at) {
     const char *why = NULL;
     faz_lobby_settings settings = {.broker = self.url, .name = FRIEND, .digest = 7, .lasts = self.lasts};
     self.lobby[at] = faz_lobby_join(&settings, self.code, &why);
-    check(self.lobby[at] != NULL, "a friend");
+    CHECK_SAY(self.lobby[at] != NULL, "a friend");
 }
 
 static void close_one(int at) {
@@ -184,29 +177,28 @@ static void say_junk(void) {
 static void test_stranger(void) {
     open_host(3, false);
     open_friend(1);
-    check(is_told(1, FAZ_LOBBY_JOINED, 1), "a friend is in");
+    CHECK_SAY(is_told(1, FAZ_LOBBY_JOINED, 1), "a friend is in");
     hear();
     say_again(0, self.count);
     say_junk();
     run(200);
-    check(self.told[0][FAZ_LOBBY_JOINED] == 1 && self.told[0][FAZ_LOBBY_ENDED] == 0 && self.told[1][FAZ_LOBBY_ENDED] == 0,
-          "what is said again does nothing");
+    CHECK_SAY(self.told[0][FAZ_LOBBY_JOINED] == 1 && self.told[0][FAZ_LOBBY_ENDED] == 0 && self.told[1][FAZ_LOBBY_ENDED] == 0,
+              "what is said again does nothing");
     open_friend(2);
-    check(comes_to(0, FAZ_LOBBY_CONNECTING), "the match is known");
+    CHECK_SAY(comes_to(0, FAZ_LOBBY_CONNECTING), "the match is known");
     hear();
     say_again(0, self.count);
     say_junk();
     for (int at = 0; at < 3; at++)
-        check(comes_to(at, FAZ_LOBBY_READY), "the match begins among strangers");
+        CHECK_SAY(comes_to(at, FAZ_LOBBY_READY), "the match begins among strangers");
     hear();
     say_again(0, self.count);
     say_junk();
     run(300);
     for (int at = 0; at < 3; at++)
-        check(self.told[at][FAZ_LOBBY_FULL] == 1 && self.told[at][FAZ_LOBBY_UP] == 2
-                  && faz_lobby_stage_of(self.lobby[at]) == FAZ_LOBBY_READY,
-              "the match goes on among strangers");
-    check(self.told[0][FAZ_LOBBY_JOINED] == 2, "nobody else joined");
+        CHECK_SAY(self.told[at][FAZ_LOBBY_FULL] == 1 && self.told[at][FAZ_LOBBY_UP] == 2
+                      && faz_lobby_stage_of(self.lobby[at]) == FAZ_LOBBY_READY, "the match goes on among strangers");
+    CHECK_SAY(self.told[0][FAZ_LOBBY_JOINED] == 2, "nobody else joined");
     close_all();
 }
 
@@ -214,15 +206,15 @@ static void test_stranger(void) {
 static void test_hidden(void) {
     room in;
     uint8_t code[CODE_BYTES];
-    check(self.count > 10 && faz_code_read(self.code, code), "something was heard");
+    CHECK_SAY(self.count > 10 && faz_code_read(self.code, code), "something was heard");
     faz_room_of(&in, code);
     for (size_t at = 0; at < self.count; at++) {
         const char *bytes = natsMsg_GetData(self.kept[at]);
         int length = natsMsg_GetDataLength(self.kept[at]);
         for (int place = 0; place + NAME_LENGTH <= length; place++) {
-            check(memcmp(bytes + place, HOST, NAME_LENGTH) != 0 && memcmp(bytes + place, FRIEND, NAME_LENGTH) != 0, "a name is seen");
-            check(place + CODE_BYTES > length || memcmp(bytes + place, code, CODE_BYTES) != 0, "the code is seen");
-            check(place + KEY > length || memcmp(bytes + place, in.key, KEY) != 0, "a key is seen");
+            CHECK_SAY(memcmp(bytes + place, HOST, NAME_LENGTH) != 0 && memcmp(bytes + place, FRIEND, NAME_LENGTH) != 0, "a name is seen");
+            CHECK_SAY(place + CODE_BYTES > length || memcmp(bytes + place, code, CODE_BYTES) != 0, "the code is seen");
+            CHECK_SAY(place + KEY > length || memcmp(bytes + place, in.key, KEY) != 0, "a key is seen");
         }
     }
     forget();
@@ -247,11 +239,11 @@ static void test_elsewhere(void) {
     say(self.lobby[0]->room_name, NULL, message, length);
     run(100);
     hear();
-    check(self.count == sizeof places / sizeof *places + 1, "the host said something elsewhere");
+    CHECK_SAY(self.count == sizeof places / sizeof *places + 1, "the host said something elsewhere");
     say(self.lobby[0]->room_name, self.nobody, message, length);
     run(100);
     hear();
-    check(self.count == sizeof places / sizeof *places + 3, "the host answers in an inbox");
+    CHECK_SAY(self.count == sizeof places / sizeof *places + 3, "the host answers in an inbox");
     close_all();
     forget();
 }
@@ -278,12 +270,12 @@ static void test_older(void) {
     say(self.lobby[0]->room_name, inbox, message, faz_hello_write(&text, in, message));
     run(100);
     hear();
-    check(self.count == 2 && is_offer(self.kept[1], inbox, in), "an older friend is offered this version");
+    CHECK_SAY(self.count == 2 && is_offer(self.kept[1], inbox, in), "an older friend is offered this version");
     crypto_kx_keypair(asks.open, secret);
     faz_pair_of(&between, in, asks.open, secret, self.lobby[0]->keys.open);
     say(self.lobby[0]->inbox_name, inbox, message, faz_ask_write(&asks, in, &between, message));
     run(100);
-    check(self.told[0][FAZ_LOBBY_JOINED] == 0, "an older friend has a seat");
+    CHECK_SAY(self.told[0][FAZ_LOBBY_JOINED] == 0, "an older friend has a seat");
     close_all();
     forget();
 }
@@ -306,7 +298,7 @@ static void test_false_host(void) {
         nanosleep(&(struct timespec){.tv_nsec = 1000000}, NULL);
         faz_lobby_turn(self.lobby[1], now());
     }
-    check(self.lobby[1]->joining.stage == SAYS_HELLO, "another host's key is none of this code");
+    CHECK_SAY(self.lobby[1]->joining.stage == SAYS_HELLO, "another host's key is none of this code");
     memcpy(lie.host, self.lobby[0]->hosting.open, KEY);
     length = faz_offer_write(&lie, in, message);
     say(self.lobby[1]->inbox_name, NULL, message, length);
@@ -315,11 +307,11 @@ static void test_false_host(void) {
         nanosleep(&(struct timespec){.tv_nsec = 1000000}, NULL);
         faz_lobby_turn(self.lobby[1], now());
     }
-    check(self.lobby[1]->joining.stage == SAYS_HELLO, "the host's key without its word");
-    check(comes_to(1, FAZ_LOBBY_READY), "the friend comes to the real host");
+    CHECK_SAY(self.lobby[1]->joining.stage == SAYS_HELLO, "the host's key without its word");
+    CHECK_SAY(comes_to(1, FAZ_LOBBY_READY), "the friend comes to the real host");
     faz_lobby_settings settings = {.broker = self.url, .digest = 7};
     self.lobby[2] = faz_lobby_join(&settings, self.code, &why);
-    check(self.lobby[2] != NULL && comes_to(2, FAZ_LOBBY_OVER) && self.last[2].why == FAZ_LOBBY_NO_SEAT, "all seats are taken");
+    CHECK_SAY(self.lobby[2] != NULL && comes_to(2, FAZ_LOBBY_OVER) && self.last[2].why == FAZ_LOBBY_NO_SEAT, "all seats are taken");
     close_all();
     forget();
 }
@@ -347,22 +339,22 @@ static void come_and_leave(int many) {
 static void test_ghosts(void) {
     open_host(3, false);
     open_friend(1);
-    check(is_told(1, FAZ_LOBBY_JOINED, 1), "a friend is in");
+    CHECK_SAY(is_told(1, FAZ_LOBBY_JOINED, 1), "a friend is in");
     hear();
     close_one(1);
-    check(is_told(0, FAZ_LOBBY_LEFT, 1), "it has left");
+    CHECK_SAY(is_told(0, FAZ_LOBBY_LEFT, 1), "it has left");
     say_again(0, self.count);
     run(200);
-    check(self.told[0][FAZ_LOBBY_JOINED] == 1, "it is back by what it had said");
+    CHECK_SAY(self.told[0][FAZ_LOBBY_JOINED] == 1, "it is back by what it had said");
     size_t count = self.count;
     come_and_leave(300);
     say_again(0, count);
     run(200);
-    check(self.told[0][FAZ_LOBBY_JOINED] == 1, "it is back after 300 others have left");
+    CHECK_SAY(self.told[0][FAZ_LOBBY_JOINED] == 1, "it is back after 300 others have left");
     open_friend(1);
     open_friend(2);
     for (int at = 0; at < 3; at++)
-        check(comes_to(at, FAZ_LOBBY_READY), "both seats are taken by friends");
+        CHECK_SAY(comes_to(at, FAZ_LOBBY_READY), "both seats are taken by friends");
     close_all();
     forget();
 }
@@ -371,7 +363,7 @@ static void test_ghosts(void) {
 static void test_silence(void) {
     open_host(2, true);
     open_friend(1);
-    check(is_told(0, FAZ_LOBBY_ASKS, 1), "the host's player is asked");
+    CHECK_SAY(is_told(0, FAZ_LOBBY_ASKS, 1), "the host's player is asked");
     hear();
     faz_lobby *stopped = self.lobby[1];
     self.lobby[1] = NULL;
@@ -380,14 +372,14 @@ static void test_silence(void) {
         say_again(0, self.count);
         run(50);
     }
-    check(self.told[0][FAZ_LOBBY_LEFT] == 1, "who is silent is gone");
-    check(!faz_lobby_let_in(self.lobby[0], 1, true), "and can't be let in");
+    CHECK_SAY(self.told[0][FAZ_LOBBY_LEFT] == 1, "who is silent is gone");
+    CHECK_SAY(!faz_lobby_let_in(self.lobby[0], 1, true), "and can't be let in");
     faz_lobby_close(stopped);
     open_friend(1);
-    check(is_told(0, FAZ_LOBBY_ASKS, 2) && is_told(1, FAZ_LOBBY_ASKS, 1), "the next one asks");
-    check(strcmp(self.last[0].text, self.last[1].text) == 0 && self.last[1].what == FAZ_LOBBY_ASKS, "both see the same");
-    check(faz_lobby_let_in(self.lobby[0], self.last[0].who, false) && comes_to(1, FAZ_LOBBY_OVER)
-              && self.last[1].why == FAZ_LOBBY_NOT_LET_IN, "it isn't let in");
+    CHECK_SAY(is_told(0, FAZ_LOBBY_ASKS, 2) && is_told(1, FAZ_LOBBY_ASKS, 1), "the next one asks");
+    CHECK_SAY(strcmp(self.last[0].text, self.last[1].text) == 0 && self.last[1].what == FAZ_LOBBY_ASKS, "both see the same");
+    CHECK_SAY(faz_lobby_let_in(self.lobby[0], self.last[0].who, false) && comes_to(1, FAZ_LOBBY_OVER)
+                  && self.last[1].why == FAZ_LOBBY_NOT_LET_IN, "it isn't let in");
     close_all();
     forget();
 }
@@ -408,13 +400,13 @@ static void test_crowd(void) {
             run(5);
     }
     run(200);
-    check(self.told[0][FAZ_LOBBY_ASKS] == GUESTS, "as many ask as are remembered");
+    CHECK_SAY(self.told[0][FAZ_LOBBY_ASKS] == GUESTS, "as many ask as are remembered");
     self.skipped += 11000;
     run(50);
-    check(self.told[0][FAZ_LOBBY_LEFT] == GUESTS, "they are gone");
+    CHECK_SAY(self.told[0][FAZ_LOBBY_LEFT] == GUESTS, "they are gone");
     open_friend(1);
-    check(is_told(0, FAZ_LOBBY_ASKS, GUESTS + 1) && faz_lobby_let_in(self.lobby[0], self.last[0].who, true), "a friend is let in");
-    check(comes_to(1, FAZ_LOBBY_READY) && comes_to(0, FAZ_LOBBY_READY), "and plays");
+    CHECK_SAY(is_told(0, FAZ_LOBBY_ASKS, GUESTS + 1) && faz_lobby_let_in(self.lobby[0], self.last[0].who, true), "a friend is let in");
+    CHECK_SAY(comes_to(1, FAZ_LOBBY_READY) && comes_to(0, FAZ_LOBBY_READY), "and plays");
     close_all();
     forget();
 }
@@ -427,34 +419,34 @@ static void test_refusals(void) {
     offer newer = {.version = LOBBY_VERSION + 1};
     open_host(2, false);
     self.lobby[1] = faz_lobby_join(&settings, self.code, &why);
-    check(comes_to(1, FAZ_LOBBY_OVER) && self.last[1].why == FAZ_LOBBY_OTHER_GAME, "another game");
+    CHECK_SAY(comes_to(1, FAZ_LOBBY_OVER) && self.last[1].why == FAZ_LOBBY_OTHER_GAME, "another game");
     close_one(1);
     settings = (faz_lobby_settings){.broker = self.url, .digest = 7, .here = 2};
     self.lobby[1] = faz_lobby_join(&settings, self.code, &why);
-    check(comes_to(1, FAZ_LOBBY_OVER) && self.last[1].why == FAZ_LOBBY_NO_SEAT, "two at one machine, and one seat");
+    CHECK_SAY(comes_to(1, FAZ_LOBBY_OVER) && self.last[1].why == FAZ_LOBBY_NO_SEAT, "two at one machine, and one seat");
     close_one(1);
     room in = self.lobby[0]->room;
     close_one(0);
     open_friend(1);
     run(300);
-    check(faz_lobby_stage_of(self.lobby[1]) == FAZ_LOBBY_MEETING, "somebody hears, and says nothing");
+    CHECK_SAY(faz_lobby_stage_of(self.lobby[1]) == FAZ_LOBBY_MEETING, "somebody hears, and says nothing");
     say(self.lobby[1]->inbox_name, NULL, message, faz_offer_write(&newer, &in, message));
-    check(comes_to(1, FAZ_LOBBY_OVER) && self.last[1].why == FAZ_LOBBY_OTHER_LIBRARY, "another version");
+    CHECK_SAY(comes_to(1, FAZ_LOBBY_OVER) && self.last[1].why == FAZ_LOBBY_OTHER_LIBRARY, "another version");
     close_one(1);
     open_friend(1);
     run(300);
     self.skipped += 11000;
-    check(comes_to(1, FAZ_LOBBY_OVER) && self.last[1].why == FAZ_LOBBY_NO_SUCH_CODE, "nobody answers");
-    check(self.told[1][FAZ_LOBBY_UNANSWERED] == 0, "and nobody says so");
+    CHECK_SAY(comes_to(1, FAZ_LOBBY_OVER) && self.last[1].why == FAZ_LOBBY_NO_SUCH_CODE, "nobody answers");
+    CHECK_SAY(self.told[1][FAZ_LOBBY_UNANSWERED] == 0, "and nobody says so");
     close_one(1);
     listen(false);
     open_friend(1);
     uint32_t begun = now();
-    check(is_told(1, FAZ_LOBBY_UNANSWERED, 1) && self.last[1].why == FAZ_LOBBY_NO_SUCH_CODE && now() - begun < 2000, "nobody hears");
+    CHECK_SAY(is_told(1, FAZ_LOBBY_UNANSWERED, 1) && self.last[1].why == FAZ_LOBBY_NO_SUCH_CODE && now() - begun < 2000, "nobody hears");
     wait_for(8000);
-    check(faz_lobby_stage_of(self.lobby[1]) == FAZ_LOBBY_MEETING, "it waits for ten seconds");
+    CHECK_SAY(faz_lobby_stage_of(self.lobby[1]) == FAZ_LOBBY_MEETING, "it waits for ten seconds");
     wait_for(1000);
-    check(comes_to(1, FAZ_LOBBY_OVER) && self.last[1].why == FAZ_LOBBY_NO_SUCH_CODE, "and no longer");
+    CHECK_SAY(comes_to(1, FAZ_LOBBY_OVER) && self.last[1].why == FAZ_LOBBY_NO_SUCH_CODE, "and no longer");
     listen(true);
     close_all();
     forget();
@@ -479,15 +471,15 @@ static void test_false_nobody(void) {
         say_nobody(self.lobby[1]->inbox_name);
         run(10);
     }
-    check(self.told[1][FAZ_LOBBY_UNANSWERED] == 1 && strstr(self.last[1].text, "nobody answers so far") != NULL
-              && strstr(self.last[1].text, "10 seconds") != NULL, "it is told, and for how long it is waited");
+    CHECK_SAY(self.told[1][FAZ_LOBBY_UNANSWERED] == 1 && strstr(self.last[1].text, "nobody answers so far") != NULL
+                  && strstr(self.last[1].text, "10 seconds") != NULL, "it is told, and for how long it is waited");
     wait_for(8000);
-    check(faz_lobby_stage_of(self.lobby[1]) == FAZ_LOBBY_MEETING, "it ends nothing");
+    CHECK_SAY(faz_lobby_stage_of(self.lobby[1]) == FAZ_LOBBY_MEETING, "it ends nothing");
     self.lobby[0] = slow;
-    check(comes_to(1, FAZ_LOBBY_READY), "the friend comes in");
+    CHECK_SAY(comes_to(1, FAZ_LOBBY_READY), "the friend comes in");
     say_nobody(self.lobby[1]->inbox_name);
     run(50);
-    check(self.told[1][FAZ_LOBBY_UNANSWERED] == 1 && self.told[1][FAZ_LOBBY_ENDED] == 0, "and stays");
+    CHECK_SAY(self.told[1][FAZ_LOBBY_UNANSWERED] == 1 && self.told[1][FAZ_LOBBY_ENDED] == 0, "and stays");
     close_all();
     forget();
 }
@@ -496,21 +488,21 @@ static void test_false_nobody(void) {
 static void test_host_leaves(void) {
     open_host(3, false);
     open_friend(1);
-    check(is_told(1, FAZ_LOBBY_JOINED, 1), "a friend is in");
+    CHECK_SAY(is_told(1, FAZ_LOBBY_JOINED, 1), "a friend is in");
     close_one(0);
     uint32_t begun = now();
-    check(comes_to(1, FAZ_LOBBY_OVER) && self.last[1].why == FAZ_LOBBY_HOST_LEFT && now() - begun < 2000, "the host has left");
+    CHECK_SAY(comes_to(1, FAZ_LOBBY_OVER) && self.last[1].why == FAZ_LOBBY_HOST_LEFT && now() - begun < 2000, "the host has left");
     close_all();
     open_host(3, false);
     open_friend(1);
-    check(is_told(1, FAZ_LOBBY_JOINED, 1), "a friend is in");
+    CHECK_SAY(is_told(1, FAZ_LOBBY_JOINED, 1), "a friend is in");
     faz_lobby *stopped = self.lobby[0];
     self.lobby[0] = NULL;
     self.skipped += 8000;
     run(300);
-    check(faz_lobby_stage_of(self.lobby[1]) == FAZ_LOBBY_MEETING, "it waits for a host that is silent");
+    CHECK_SAY(faz_lobby_stage_of(self.lobby[1]) == FAZ_LOBBY_MEETING, "it waits for a host that is silent");
     self.skipped += 3000;
-    check(comes_to(1, FAZ_LOBBY_OVER) && self.last[1].why == FAZ_LOBBY_HOST_LEFT, "and no longer than ten seconds");
+    CHECK_SAY(comes_to(1, FAZ_LOBBY_OVER) && self.last[1].why == FAZ_LOBBY_HOST_LEFT, "and no longer than ten seconds");
     faz_lobby_close(stopped);
     close_all();
     forget();
@@ -524,10 +516,10 @@ static void test_false_news(void) {
     self.lasts = true;
     open_host(3, false);
     open_friend(1);
-    check(is_told(1, FAZ_LOBBY_JOINED, 1), "a friend is in");
+    CHECK_SAY(is_told(1, FAZ_LOBBY_JOINED, 1), "a friend is in");
     open_friend(2);
     for (int at = 0; at < 3; at++)
-        check(comes_to(at, FAZ_LOBBY_READY), "the match begins");
+        CHECK_SAY(comes_to(at, FAZ_LOBBY_READY), "the match begins");
     crypto_kx_keypair(lie.who.open, secret);
     for (lie.place = 0; lie.place < 9; lie.place++)
         for (uint32_t from = 0; from < 4; from++) {
@@ -540,8 +532,8 @@ static void test_false_news(void) {
     open_friend(3);
     run(1500);
     for (int at = 0; at < 3; at++)
-        check(self.told[at][FAZ_LOBBY_COMES] == 0 && self.told[at][FAZ_LOBBY_SILENT] == 0, "nobody comes in a place that isn't free");
-    check(faz_lobby_stage_of(self.lobby[3]) == FAZ_LOBBY_MEETING, "and who would come waits");
+        CHECK_SAY(self.told[at][FAZ_LOBBY_COMES] == 0 && self.told[at][FAZ_LOBBY_SILENT] == 0, "nobody comes in a place that isn't free");
+    CHECK_SAY(faz_lobby_stage_of(self.lobby[3]) == FAZ_LOBBY_MEETING, "and who would come waits");
     hear();
     close_one(3);
     faz_lobby *stopped = self.lobby[2];
@@ -549,9 +541,10 @@ static void test_false_news(void) {
     run(1600);
     say_again(0, self.count);
     run(300);
-    check(self.told[0][FAZ_LOBBY_COMES] == 0 && self.told[1][FAZ_LOBBY_COMES] == 0, "who asked before doesn't come by what is said again");
+    CHECK_SAY(self.told[0][FAZ_LOBBY_COMES] == 0 && self.told[1][FAZ_LOBBY_COMES] == 0,
+              "who asked before doesn't come by what is said again");
     open_friend(3);
-    check(comes_to(3, FAZ_LOBBY_READY) && self.told[0][FAZ_LOBBY_COMES] == 1 && self.told[1][FAZ_LOBBY_COMES] == 1, "a friend comes");
+    CHECK_SAY(comes_to(3, FAZ_LOBBY_READY) && self.told[0][FAZ_LOBBY_COMES] == 1 && self.told[1][FAZ_LOBBY_COMES] == 1, "a friend comes");
     self.lasts = false;
     faz_lobby_close(stopped);
     close_all();
@@ -596,28 +589,28 @@ static void test_known_keys(void) {
     self.lasts = true;
     open_host(3, false);
     open_friend(1);
-    check(is_told(1, FAZ_LOBBY_JOINED, 1), "a friend is in");
+    CHECK_SAY(is_told(1, FAZ_LOBBY_JOINED, 1), "a friend is in");
     open_friend(2);
     for (int at = 0; at < 3; at++)
-        check(comes_to(at, FAZ_LOBBY_READY), "the match begins");
+        CHECK_SAY(comes_to(at, FAZ_LOBBY_READY), "the match begins");
     memcpy(before, self.lobby[2]->keys.open, KEY);
     faz_lobby *stopped = self.lobby[2];
     self.lobby[2] = NULL;
     fall_silent(1100);
     for (uint32_t machine = 0; machine < 3; machine++)
         tell_news(++counter, 2, self.lobby[0]->table.member[machine].open);
-    check(self.told[0][FAZ_LOBBY_COMES] == 0, "nobody comes by a key that somebody has");
+    CHECK_SAY(self.told[0][FAZ_LOBBY_COMES] == 0, "nobody comes by a key that somebody has");
     fall_silent(1100);
     open_friend(2);
-    check(comes_to(2, FAZ_LOBBY_READY) && self.told[0][FAZ_LOBBY_COMES] == 1, "a friend comes");
+    CHECK_SAY(comes_to(2, FAZ_LOBBY_READY) && self.told[0][FAZ_LOBBY_COMES] == 1, "a friend comes");
     faz_lobby *stopped_too = self.lobby[2];
     self.lobby[2] = NULL;
     fall_silent(1100);
     tell_news(++counter, 2, before);
-    check(self.told[0][FAZ_LOBBY_COMES] == 1, "nobody comes by a key that somebody had");
+    CHECK_SAY(self.told[0][FAZ_LOBBY_COMES] == 1, "nobody comes by a key that somebody had");
     crypto_kx_keypair(fresh, secret);
     tell_news(++counter, 2, fresh);
-    check(is_told(0, FAZ_LOBBY_COMES, 2), "by a key that nobody had somebody comes");
+    CHECK_SAY(is_told(0, FAZ_LOBBY_COMES, 2), "by a key that nobody had somebody comes");
     faz_lobby_close(stopped);
     faz_lobby_close(stopped_too);
     close_all();
@@ -630,15 +623,15 @@ static void test_known_comer(void) {
     self.lasts = true;
     open_host(3, false);
     open_friend(1);
-    check(is_told(1, FAZ_LOBBY_JOINED, 1), "a friend is in");
+    CHECK_SAY(is_told(1, FAZ_LOBBY_JOINED, 1), "a friend is in");
     open_friend(2);
     for (int at = 0; at < 3; at++)
-        check(comes_to(at, FAZ_LOBBY_READY), "the match begins");
+        CHECK_SAY(comes_to(at, FAZ_LOBBY_READY), "the match begins");
     faz_lobby *stopped = self.lobby[0];
     self.lobby[0] = NULL;
     fall_silent(1600);
     ask_anew(2, 1, HOST);
-    check(self.told[1][FAZ_LOBBY_COMES] == 0, "a machine has a second place by its own key");
+    CHECK_SAY(self.told[1][FAZ_LOBBY_COMES] == 0, "a machine has a second place by its own key");
     faz_lobby_close(stopped);
     close_all();
     forget();
@@ -653,18 +646,18 @@ static void test_false_vacancies(void) {
     self.lasts = self.stays_open = true;
     open_host(3, false);
     open_friend(1);
-    check(is_told(1, FAZ_LOBBY_JOINED, 1) && faz_lobby_begin(self.lobby[0]) && !faz_lobby_begin(self.lobby[0]), "it begins once");
-    check(comes_to(0, FAZ_LOBBY_READY) && comes_to(1, FAZ_LOBBY_READY), "with two of three");
+    CHECK_SAY(is_told(1, FAZ_LOBBY_JOINED, 1) && faz_lobby_begin(self.lobby[0]) && !faz_lobby_begin(self.lobby[0]), "it begins once");
+    CHECK_SAY(comes_to(0, FAZ_LOBBY_READY) && comes_to(1, FAZ_LOBBY_READY), "with two of three");
     say(self.lobby[0]->inbox_name, NULL, message, faz_news_write(1, &lie, &self.lobby[1]->other[0].pair, message));
     crypto_kx_keypair(lie.who.open, secret);
     for (lie.place = 0; lie.place < 9; lie.place++)
         say(self.lobby[0]->inbox_name, NULL, message, faz_news_write(2, &lie, &nobodys, message));
     say(self.lobby[0]->inbox_name, NULL, message, faz_signal_write(2, secret, sizeof secret, &nobodys, message));
     run(300);
-    check(self.told[0][FAZ_LOBBY_COMES] == 0 && faz_lobby_look(self.lobby[0], 1, &(faz_line_state){0})
-              && !faz_lobby_look(self.lobby[0], 2, &(faz_line_state){0}), "nobody comes");
+    CHECK_SAY(self.told[0][FAZ_LOBBY_COMES] == 0 && faz_lobby_look(self.lobby[0], 1, &(faz_line_state){0})
+                  && !faz_lobby_look(self.lobby[0], 2, &(faz_line_state){0}), "nobody comes");
     open_friend(2);
-    check(comes_to(2, FAZ_LOBBY_READY) && self.told[0][FAZ_LOBBY_COMES] == 1 && self.told[1][FAZ_LOBBY_COMES] == 1, "a friend comes");
+    CHECK_SAY(comes_to(2, FAZ_LOBBY_READY) && self.told[0][FAZ_LOBBY_COMES] == 1 && self.told[1][FAZ_LOBBY_COMES] == 1, "a friend comes");
     self.lasts = self.stays_open = false;
     close_all();
     forget();
@@ -691,16 +684,16 @@ static void test_settings(void) {
     hosts[6].settings.relays[0] = (faz_line_relay){.address = "127.0.0.1", .port = 1, .password = "x"};
     hosts[7].settings.stays_open = true;
     for (size_t at = 0; at < sizeof hosts / sizeof *hosts; at++, why = NULL)
-        check(faz_lobby_host(&hosts[at].settings, &why) == NULL && why != NULL, hosts[at].what);
+        CHECK_SAY(faz_lobby_host(&hosts[at].settings, &why) == NULL && why != NULL, "%s", hosts[at].what);
     bad = good;
-    check(faz_lobby_join(&bad, "KXQ-4H7", &why) == NULL && why != NULL, "no code");
-    check(faz_lobby_join(&bad, NULL, &why) == NULL && why != NULL, "no code at all");
+    CHECK_SAY(faz_lobby_join(&bad, "KXQ-4H7", &why) == NULL && why != NULL, "no code");
+    CHECK_SAY(faz_lobby_join(&bad, NULL, &why) == NULL && why != NULL, "no code at all");
     faz_lobby *one = faz_lobby_open(&bad, &why);
-    check(one != NULL && !faz_lobby_enter(one, "KXQ-4H7") && !faz_lobby_enter(one, NULL), "no code is typed");
-    check(faz_lobby_enter(one, "KXQ-4H7P") && !faz_lobby_enter(one, "KXQ-4H7P"), "and then one, once");
+    CHECK_SAY(one != NULL && !faz_lobby_enter(one, "KXQ-4H7") && !faz_lobby_enter(one, NULL), "no code is typed");
+    CHECK_SAY(faz_lobby_enter(one, "KXQ-4H7P") && !faz_lobby_enter(one, "KXQ-4H7P"), "and then one, once");
     faz_lobby_close(one);
     one = faz_lobby_host(&good, &why);
-    check(one != NULL && !faz_lobby_enter(one, "KXQ-4H7P"), "who hosts types none");
+    CHECK_SAY(one != NULL && !faz_lobby_enter(one, "KXQ-4H7P"), "who hosts types none");
     faz_lobby_close(one);
     faz_lobby_close(NULL);
 }
@@ -713,15 +706,15 @@ static void open_short(uint32_t players) {
                                    .lasts = self.lasts};
     memset(self.told, 0, sizeof self.told);
     self.lobby[0] = faz_lobby_host(&settings, &why);
-    check(self.lobby[0] != NULL && is_told(0, FAZ_LOBBY_CODE, 1), "a host with a short code");
-    check(strlen(self.code) == 8 && self.code[3] == '-' && self.code_why == FAZ_LOBBY_NO_REASON, "it is short");
+    CHECK_SAY(self.lobby[0] != NULL && is_told(0, FAZ_LOBBY_CODE, 1), "a host with a short code");
+    CHECK_SAY(strlen(self.code) == 8 && self.code[3] == '-' && self.code_why == FAZ_LOBBY_NO_REASON, "it is short");
 }
 
 /* The friend is asked for, and let in. */
 static void let_in(int at) {
     unsigned asked = self.told[0][FAZ_LOBBY_ASKS];
     open_friend(at);
-    check(is_told(0, FAZ_LOBBY_ASKS, asked + 1) && faz_lobby_let_in(self.lobby[0], self.last[0].who, true), "a friend is let in");
+    CHECK_SAY(is_told(0, FAZ_LOBBY_ASKS, asked + 1) && faz_lobby_let_in(self.lobby[0], self.last[0].who, true), "a friend is let in");
 }
 
 /* Somebody tries a code with another last sign. */
@@ -731,13 +724,13 @@ static faz_lobby_why try_wrong(void) {
     self.code[7] = self.code[7] == '7' ? '8' : '7';
     open_friend(2);
     strcpy(self.code, right);
-    check(is_told(2, FAZ_LOBBY_UNANSWERED, 1) && self.last[2].why == FAZ_LOBBY_WRONG_CODE, "that a code is wrong is told at once");
+    CHECK_SAY(is_told(2, FAZ_LOBBY_UNANSWERED, 1) && self.last[2].why == FAZ_LOBBY_WRONG_CODE, "that a code is wrong is told at once");
     for (uint32_t begun = now(); now() - begun < 5000 && !self.lobby[0]->door.is_answered;)
         turn(); /* the host may have another code now */
     wait_for(2000);
-    check(faz_lobby_stage_of(self.lobby[2]) == FAZ_LOBBY_MEETING, "it waits for three seconds");
+    CHECK_SAY(faz_lobby_stage_of(self.lobby[2]) == FAZ_LOBBY_MEETING, "it waits for three seconds");
     wait_for(1000);
-    check(comes_to(2, FAZ_LOBBY_OVER), "a wrong code ends it");
+    CHECK_SAY(comes_to(2, FAZ_LOBBY_OVER), "a wrong code ends it");
     faz_lobby_why why = self.last[2].why;
     close_one(2);
     return why;
@@ -747,13 +740,13 @@ static faz_lobby_why try_wrong(void) {
 static void test_wrong_tries(void) {
     open_short(2);
     for (int times = 0; times < 4; times++)
-        check(try_wrong() == FAZ_LOBBY_WRONG_CODE, "a wrong code is known as such");
-    check(self.told[0][FAZ_LOBBY_ASKS] == 0 && self.told[0][FAZ_LOBBY_CODE] == 1, "nobody was asked for");
+        CHECK_SAY(try_wrong() == FAZ_LOBBY_WRONG_CODE, "a wrong code is known as such");
+    CHECK_SAY(self.told[0][FAZ_LOBBY_ASKS] == 0 && self.told[0][FAZ_LOBBY_CODE] == 1, "nobody was asked for");
     self.skipped += 21000;
     run(300);
-    check(self.told[0][FAZ_LOBBY_CODE] == 1 && self.lobby[0]->door.is_answered, "the plate is kept");
+    CHECK_SAY(self.told[0][FAZ_LOBBY_CODE] == 1 && self.lobby[0]->door.is_answered, "the plate is kept");
     let_in(1);
-    check(comes_to(0, FAZ_LOBBY_READY) && comes_to(1, FAZ_LOBBY_READY), "the friend plays");
+    CHECK_SAY(comes_to(0, FAZ_LOBBY_READY) && comes_to(1, FAZ_LOBBY_READY), "the friend plays");
     close_all();
     forget();
 }
@@ -764,11 +757,11 @@ static void test_burnt(void) {
     open_short(3);
     strcpy(before, self.code);
     let_in(1);
-    check(is_told(1, FAZ_LOBBY_JOINED, 1), "a friend is in");
+    CHECK_SAY(is_told(1, FAZ_LOBBY_JOINED, 1), "a friend is in");
     for (int times = 0; times < 5; times++)
-        check(try_wrong() == FAZ_LOBBY_WRONG_CODE, "a wrong code is known as such");
-    check(is_told(0, FAZ_LOBBY_CODE, 2) && strcmp(before, self.code) != 0, "the code is another one");
-    check(self.code_why == FAZ_LOBBY_WRONG_CODE, "and the host is told why");
+        CHECK_SAY(try_wrong() == FAZ_LOBBY_WRONG_CODE, "a wrong code is known as such");
+    CHECK_SAY(is_told(0, FAZ_LOBBY_CODE, 2) && strcmp(before, self.code) != 0, "the code is another one");
+    CHECK_SAY(self.code_why == FAZ_LOBBY_WRONG_CODE, "and the host is told why");
     char now_it_is[FAZ_LOBBY_CODE_ROOM];
     strcpy(now_it_is, self.code);
     strcpy(self.code, before);
@@ -776,13 +769,13 @@ static void test_burnt(void) {
     open_friend(2);
     run(300);
     wait_for(10000);
-    check(comes_to(2, FAZ_LOBBY_OVER) && self.last[2].why == FAZ_LOBBY_NO_SUCH_CODE, "the one before is none");
+    CHECK_SAY(comes_to(2, FAZ_LOBBY_OVER) && self.last[2].why == FAZ_LOBBY_NO_SUCH_CODE, "the one before is none");
     listen(true);
     close_one(2);
     strcpy(self.code, now_it_is);
     let_in(2);
     for (int at = 0; at < 3; at++)
-        check(comes_to(at, FAZ_LOBBY_READY), "all play");
+        CHECK_SAY(comes_to(at, FAZ_LOBBY_READY), "all play");
     close_all();
     forget();
 }
@@ -803,26 +796,26 @@ static void knock_once(void) {
 static void test_all_tries(void) {
     open_short(3);
     let_in(1);
-    check(is_told(1, FAZ_LOBBY_JOINED, 1), "a friend is in");
+    CHECK_SAY(is_told(1, FAZ_LOBBY_JOINED, 1), "a friend is in");
     for (unsigned codes = 1; codes <= 4; codes++) {
-        check(is_told(0, FAZ_LOBBY_CODE, codes) && strlen(self.code) == 8, "a short code");
+        CHECK_SAY(is_told(0, FAZ_LOBBY_CODE, codes) && strlen(self.code) == 8, "a short code");
         for (int times = 0; times < 5; times++)
             knock_once();
         self.skipped += 6000;
         run(100);
     }
     uint8_t code[CODE_BYTES];
-    check(is_told(0, FAZ_LOBBY_CODE, 5) && faz_code_read(self.code, code), "a long code");
-    check(self.code_why == FAZ_LOBBY_WRONG_CODE, "and the host is told why");
+    CHECK_SAY(is_told(0, FAZ_LOBBY_CODE, 5) && faz_code_read(self.code, code), "a long code");
+    CHECK_SAY(self.code_why == FAZ_LOBBY_WRONG_CODE, "and the host is told why");
     for (int times = 0; times < 12; times++) {
         self.skipped += 1000;
         knock_once();
     }
-    check(self.told[0][FAZ_LOBBY_CODE] == 5 && self.lobby[0]->hosting.wrong_all == 20, "there are no more tries");
-    check(self.told[0][FAZ_LOBBY_LEFT] == 0 && self.told[1][FAZ_LOBBY_ENDED] == 0, "who was let in stays");
+    CHECK_SAY(self.told[0][FAZ_LOBBY_CODE] == 5 && self.lobby[0]->hosting.wrong_all == 20, "there are no more tries");
+    CHECK_SAY(self.told[0][FAZ_LOBBY_LEFT] == 0 && self.told[1][FAZ_LOBBY_ENDED] == 0, "who was let in stays");
     let_in(2);
     for (int at = 0; at < 3; at++)
-        check(comes_to(at, FAZ_LOBBY_READY), "all play");
+        CHECK_SAY(comes_to(at, FAZ_LOBBY_READY), "all play");
     close_all();
     forget();
 }
@@ -834,17 +827,17 @@ static void test_no_more_tries(void) {
     self.lasts = true;
     open_short(2);
     let_in(1);
-    check(comes_to(0, FAZ_LOBBY_READY) && comes_to(1, FAZ_LOBBY_READY) && faz_lobby_get_match(self.lobby[0], &match), "the match runs");
+    CHECK_SAY(comes_to(0, FAZ_LOBBY_READY) && comes_to(1, FAZ_LOBBY_READY) && faz_lobby_get_match(self.lobby[0], &match), "the match runs");
     strcpy(before, self.code);
     for (int times = 0; times < 5; times++)
-        check(try_wrong() == FAZ_LOBBY_WRONG_CODE, "a wrong code is known as such");
+        CHECK_SAY(try_wrong() == FAZ_LOBBY_WRONG_CODE, "a wrong code is known as such");
     strcpy(long_one, self.code);
     strcpy(self.code, before);
     open_friend(2);
     run(2000);
-    check(self.told[0][FAZ_LOBBY_CODE] == 2 && self.told[0][FAZ_LOBBY_ASKS] == 1, "the code is no more");
-    check(strcmp(long_one, match.code) == 0 && self.code_why == FAZ_LOBBY_WRONG_CODE, "the host is told the long one");
-    check(faz_lobby_stage_of(self.lobby[2]) == FAZ_LOBBY_MEETING, "who has it isn't answered");
+    CHECK_SAY(self.told[0][FAZ_LOBBY_CODE] == 2 && self.told[0][FAZ_LOBBY_ASKS] == 1, "the code is no more");
+    CHECK_SAY(strcmp(long_one, match.code) == 0 && self.code_why == FAZ_LOBBY_WRONG_CODE, "the host is told the long one");
+    CHECK_SAY(faz_lobby_stage_of(self.lobby[2]) == FAZ_LOBBY_MEETING, "who has it isn't answered");
     self.lasts = false;
     close_all();
     forget();
@@ -859,7 +852,7 @@ static void test_knocks(void) {
     run(300);
     self.skipped += 6000;
     run(100);
-    check(self.lobby[0]->hosting.wrong == 3, "three have had their tries");
+    CHECK_SAY(self.lobby[0]->hosting.wrong == 3, "three have had their tries");
     for (int times = 0; times < 300; times++) {
         knock text = {.step = (uint8_t)(times % 5), .length = randombytes_uniform(PAKE_BYTES)};
         randombytes_buf(text.id, KNOCK_ID);
@@ -870,20 +863,20 @@ static void test_knocks(void) {
             run(20);
     }
     run(300);
-    check(self.told[0][FAZ_LOBBY_CODE] >= 2, "junk costs tries, and codes");
+    CHECK_SAY(self.told[0][FAZ_LOBBY_CODE] >= 2, "junk costs tries, and codes");
     forget();
     run(500);
     let_in(1);
-    check(comes_to(0, FAZ_LOBBY_READY) && comes_to(1, FAZ_LOBBY_READY), "the friend plays");
+    CHECK_SAY(comes_to(0, FAZ_LOBBY_READY) && comes_to(1, FAZ_LOBBY_READY), "the friend plays");
     hear();
     say_again(0, self.count);
     run(300);
-    check(self.told[0][FAZ_LOBBY_ASKS] == 1 && faz_lobby_stage_of(self.lobby[0]) == FAZ_LOBBY_READY, "what is said again does nothing");
+    CHECK_SAY(self.told[0][FAZ_LOBBY_ASKS] == 1 && faz_lobby_stage_of(self.lobby[0]) == FAZ_LOBBY_READY, "what is said again does nothing");
     char signs[SHORT_SECRET];
     memcpy(signs, self.lobby[0]->hosting.secret_signs, SHORT_SECRET);
     for (size_t at = 0; at < self.count; at++)
         for (int place = 0; place + 4 <= natsMsg_GetDataLength(self.kept[at]); place++)
-            check(memcmp(natsMsg_GetData(self.kept[at]) + place, signs, 4) != 0, "the last four signs are seen");
+            CHECK_SAY(memcmp(natsMsg_GetData(self.kept[at]) + place, signs, 4) != 0, "the last four signs are seen");
     close_all();
     forget();
 }
@@ -910,16 +903,16 @@ static void test_false_knocked(void) {
         turn();
     for (int times = 0; times < 10; times++)
         say_knocked(true, 0);
-    check(self.told[1][FAZ_LOBBY_UNANSWERED] == 1 && self.last[1].why == FAZ_LOBBY_WRONG_CODE
-              && strstr(self.last[1].text, "3 seconds") != NULL, "it is told, and for how long it is waited");
+    CHECK_SAY(self.told[1][FAZ_LOBBY_UNANSWERED] == 1 && self.last[1].why == FAZ_LOBBY_WRONG_CODE
+                  && strstr(self.last[1].text, "3 seconds") != NULL, "it is told, and for how long it is waited");
     say_nobody(self.lobby[1]->inbox_name);
     say_knocked(false, 300);
     say_knocked(false, 0);
-    check(self.told[1][FAZ_LOBBY_UNANSWERED] == 2 && self.told[1][FAZ_LOBBY_ENDED] == 0, "it ends nothing");
-    check(self.lobby[1]->joining.knocks == 3, "it knocks anew");
+    CHECK_SAY(self.told[1][FAZ_LOBBY_UNANSWERED] == 2 && self.told[1][FAZ_LOBBY_ENDED] == 0, "it ends nothing");
+    CHECK_SAY(self.lobby[1]->joining.knocks == 3, "it knocks anew");
     self.lobby[0] = slow;
-    check(is_told(0, FAZ_LOBBY_ASKS, 1) && faz_lobby_let_in(self.lobby[0], self.last[0].who, true), "the friend is let in");
-    check(comes_to(0, FAZ_LOBBY_READY) && comes_to(1, FAZ_LOBBY_READY), "and plays");
+    CHECK_SAY(is_told(0, FAZ_LOBBY_ASKS, 1) && faz_lobby_let_in(self.lobby[0], self.last[0].who, true), "the friend is let in");
+    CHECK_SAY(comes_to(0, FAZ_LOBBY_READY) && comes_to(1, FAZ_LOBBY_READY), "and plays");
     close_all();
     forget();
 }
@@ -941,13 +934,13 @@ static void test_false_offer(void) {
             changed.length = (size_t)natsMsg_GetDataLength(self.kept[at]);
             memcpy(changed.bytes, natsMsg_GetData(self.kept[at]), changed.length);
         }
-    check(changed.length > SEAL, "the host says something");
+    CHECK_SAY(changed.length > SEAL, "the host says something");
     changed.bytes[changed.length - 1] ^= 1;
     faz_join_hear(joins, &changed);
     self.lobby[1] = joins;
-    check(joins->joining.has_key && !joins->is_over, "it ends nothing");
-    check(is_told(0, FAZ_LOBBY_ASKS, 1) && faz_lobby_let_in(self.lobby[0], self.last[0].who, true), "the friend is let in");
-    check(comes_to(0, FAZ_LOBBY_READY) && comes_to(1, FAZ_LOBBY_READY), "and plays");
+    CHECK_SAY(joins->joining.has_key && !joins->is_over, "it ends nothing");
+    CHECK_SAY(is_told(0, FAZ_LOBBY_ASKS, 1) && faz_lobby_let_in(self.lobby[0], self.last[0].who, true), "the friend is let in");
+    CHECK_SAY(comes_to(0, FAZ_LOBBY_READY) && comes_to(1, FAZ_LOBBY_READY), "and plays");
     close_all();
     forget();
 }
@@ -962,9 +955,9 @@ static void test_no_proof(void) {
         turn();
     for (int times = 0; times < 6; times++)
         say_knocked(false, 200);
-    check(self.lobby[1]->joining.knocks == 3 && self.told[1][FAZ_LOBBY_ENDED] == 0, "it knocks three times");
+    CHECK_SAY(self.lobby[1]->joining.knocks == 3 && self.told[1][FAZ_LOBBY_ENDED] == 0, "it knocks three times");
     wait_for(3000);
-    check(comes_to(1, FAZ_LOBBY_OVER) && self.last[1].why == FAZ_LOBBY_WRONG_CODE, "and is told in time");
+    CHECK_SAY(comes_to(1, FAZ_LOBBY_OVER) && self.last[1].why == FAZ_LOBBY_WRONG_CODE, "and is told in time");
     self.lobby[0] = slow;
     close_all();
     forget();
@@ -989,7 +982,7 @@ static void test_knocks_again(void) {
         say(self.lobby[0]->room_name, from[at], message, length);
         run(200);
         hear();
-        check(self.count == (from[at] == other ? 1 : 2), "what is said to who knocks");
+        CHECK_SAY(self.count == (from[at] == other ? 1 : 2), "what is said to who knocks");
     }
     close_all();
     forget();
@@ -1002,14 +995,14 @@ static void test_no_plate(void) {
     strcpy(self.code, "ZZZ-ZZZZ");
     open_friend(1);
     uint32_t begun = now();
-    check(comes_to(1, FAZ_LOBBY_OVER) && self.last[1].why == FAZ_LOBBY_NO_SUCH_CODE && now() - begun < 2000, "a plate of nobody's");
+    CHECK_SAY(comes_to(1, FAZ_LOBBY_OVER) && self.last[1].why == FAZ_LOBBY_NO_SUCH_CODE && now() - begun < 2000, "a plate of nobody's");
     close_one(1);
     for (int times = 0; times < 120 && self.last[1].why != FAZ_LOBBY_TOO_MANY; times++) {
         self.lobby[1] = faz_lobby_join(&settings, "ZZZ ZZZ Z", &why);
         comes_to(1, FAZ_LOBBY_OVER);
         close_one(1);
     }
-    check(self.last[1].why == FAZ_LOBBY_TOO_MANY, "the door counts");
+    CHECK_SAY(self.last[1].why == FAZ_LOBBY_TOO_MANY, "the door counts");
     close_all();
     forget();
 }
@@ -1042,13 +1035,12 @@ int main(int count, char **words) {
     if (natsConnection_ConnectTo(&self.stranger, self.url) != NATS_OK || !listen(true))
         return 2;
     for (size_t at = 0; at < (are_short ? sizeof shorts / sizeof *shorts : sizeof tests / sizeof *tests); at++) {
-        int failed = self.failed;
         (are_short ? shorts[at].run : tests[at].run)();
-        printf("%s: %s\n", are_short ? shorts[at].name : tests[at].name, self.failed == failed ? "as it should" : "not as it should");
+        printf("%s: %s\n", are_short ? shorts[at].name : tests[at].name, checks_end_case() ? "as it should" : "not as it should");
         fflush(stdout);
     }
     listen(false);
     natsConnection_Destroy(self.stranger);
     nats_Close();
-    return self.failed != 0;
+    return checks_end();
 }

@@ -3,34 +3,26 @@
 #include "../../../lib/lobby/keys.h"
 #include "../../../lib/lobby/messages.h"
 #include "../../../lib/lobby/words.h"
+#include "../../check.h"
 
 #include <sodium.h>
 #include <stdio.h>
 #include <stdlib.h>
 #include <string.h>
 
-static int failed;
-
-static void check(bool is_so, const char *what) {
-    if (is_so)
-        return;
-    printf("failed: %s\n", what);
-    failed++;
-}
-
 /* What Python made of the key is made here too. */
 static void check_code(char **words) {
     uint8_t host[KEY], code[CODE_BYTES], read[CODE_BYTES];
     char text[CODE_TEXT], digits[2 * KEY + 1];
     room in;
-    check(sodium_hex2bin(host, KEY, words[1], strlen(words[1]), NULL, NULL, NULL) == 0, "the host's key is one");
+    CHECK_SAY(sodium_hex2bin(host, KEY, words[1], strlen(words[1]), NULL, NULL, NULL) == 0, "the host's key is one");
     faz_code_of(code, host);
     faz_code_write(code, text);
     faz_room_of(&in, code);
-    check(strcmp(text, words[2]) == 0, text);
-    check(strcmp(in.name, words[3]) == 0, in.name);
-    check(strcmp(sodium_bin2hex(digits, sizeof digits, in.key, KEY), words[4]) == 0, digits);
-    check(faz_code_read(words[2], read) && memcmp(read, code, CODE_BYTES) == 0, "the code is read");
+    CHECK_SAY(strcmp(text, words[2]) == 0, "%s", text);
+    CHECK_SAY(strcmp(in.name, words[3]) == 0, "%s", in.name);
+    CHECK_SAY(strcmp(sodium_bin2hex(digits, sizeof digits, in.key, KEY), words[4]) == 0, "%s", digits);
+    CHECK_SAY(faz_code_read(words[2], read) && memcmp(read, code, CODE_BYTES) == 0, "the code is read");
 }
 
 /* As a friend may write it. */
@@ -38,14 +30,14 @@ static void check_spelling(const char *text) {
     uint8_t code[CODE_BYTES], read[CODE_BYTES];
     char other[4 * CODE_TEXT];
     size_t length = 0;
-    check(faz_code_read(text, code), "a code");
+    CHECK_SAY(faz_code_read(text, code), "a code");
     for (const char *at = text; *at != 0; at++) {
         other[length++] = ' ';
         other[length++] = *at >= 'A' && *at <= 'Z' ? (char)(*at - 'A' + 'a') : *at == '0' ? 'o' : *at == '1' ? 'l' : *at;
     }
     other[length++] = '\n';
     other[length] = 0;
-    check(faz_code_read(other, read) && memcmp(read, code, CODE_BYTES) == 0, "small letters, spaces, and letters that look like digits");
+    CHECK_SAY(faz_code_read(other, read) && memcmp(read, code, CODE_BYTES) == 0, "small letters, spaces, and letters that look like digits");
 }
 
 /* A sign too few or too many, other bytes, and for each place every other sign, and each two neighbours the other way round. */
@@ -66,19 +58,19 @@ static void check_slips(const char *text) {
         other[at + 1] = text[at];
         taken += text[at] != text[at + 1] && text[at] != '-' && text[at + 1] != '-' && faz_code_read(other, read);
     }
-    check(taken <= 2, "of 868 codes with one wrong sign, and 23 with two changed, hardly one is taken");
+    CHECK_SAY(taken <= 2, "of 868 codes with one wrong sign, and 23 with two changed, hardly one is taken");
     snprintf(other, sizeof other, "%s0", text);
-    check(!faz_code_read(other, read), "a sign too many");
+    CHECK_SAY(!faz_code_read(other, read), "a sign too many");
     snprintf(other, sizeof other, "%s", text + 1);
-    check(!faz_code_read(other, read), "a sign too few");
-    check(!faz_code_read("", read) && !faz_code_read("\xc3\xa9", read) && !faz_code_read("U", read), "no code");
+    CHECK_SAY(!faz_code_read(other, read), "a sign too few");
+    CHECK_SAY(!faz_code_read("", read) && !faz_code_read("\xc3\xa9", read) && !faz_code_read("U", read), "no code");
 }
 
 static void draw_pair(pair *one, pair *other, const room *in) {
     uint8_t open[2][KEY], secret[2][KEY];
     crypto_kx_keypair(open[0], secret[0]);
     crypto_kx_keypair(open[1], secret[1]);
-    check(faz_pair_of(one, in, open[0], secret[0], open[1]) && faz_pair_of(other, in, open[1], secret[1], open[0]), "a pair");
+    CHECK_SAY(faz_pair_of(one, in, open[0], secret[0], open[1]) && faz_pair_of(other, in, open[1], secret[1], open[0]), "a pair");
 }
 
 /* What one seals the other opens; nobody takes its own, another kind, another pair's or room's, or one with a bit changed. */
@@ -89,25 +81,24 @@ static void check_pairs(const room *in, const room *elsewhere) {
     draw_pair(&one, &other, in);
     draw_pair(&third, &fourth, in);
     faz_pair_seal(&one, sealed, 'x', text, sizeof text);
-    check(faz_pair_open(&other, out, 'x', sealed, sizeof sealed) && memcmp(out, text, sizeof text) == 0, "the other one opens it");
-    check(!faz_pair_open(&one, out, 'x', sealed, sizeof sealed), "who made it doesn't take it back");
-    check(!faz_pair_open(&other, out, 'y', sealed, sizeof sealed), "another kind");
-    check(!faz_pair_open(&third, out, 'x', sealed, sizeof sealed) && !faz_pair_open(&fourth, out, 'x', sealed, sizeof sealed), "others");
-    check(!faz_room_open(in, out, 'x', sealed, sizeof sealed), "who has the code alone");
+    CHECK_SAY(faz_pair_open(&other, out, 'x', sealed, sizeof sealed) && memcmp(out, text, sizeof text) == 0, "the other one opens it");
+    CHECK_SAY(!faz_pair_open(&one, out, 'x', sealed, sizeof sealed), "who made it doesn't take it back");
+    CHECK_SAY(!faz_pair_open(&other, out, 'y', sealed, sizeof sealed), "another kind");
+    CHECK_SAY(!faz_pair_open(&third, out, 'x', sealed, sizeof sealed) && !faz_pair_open(&fourth, out, 'x', sealed, sizeof sealed), "others");
+    CHECK_SAY(!faz_room_open(in, out, 'x', sealed, sizeof sealed), "who has the code alone");
     for (size_t at = 0; at < 8 * sizeof sealed; at++) {
         sealed[at / 8] ^= (uint8_t)(1 << at % 8);
-        check(!faz_pair_open(&other, out, 'x', sealed, sizeof sealed), "a changed bit");
+        CHECK_SAY(!faz_pair_open(&other, out, 'x', sealed, sizeof sealed), "a changed bit");
         sealed[at / 8] ^= (uint8_t)(1 << at % 8);
     }
     faz_pair_words(&one, words[0]);
     faz_pair_words(&other, words[1]);
-    check(strcmp(words[0], words[1]) == 0 && strlen(words[0]) == 9, "both see the same signs");
+    CHECK_SAY(strcmp(words[0], words[1]) == 0 && strlen(words[0]) == 9, "both see the same signs");
     faz_pair_words(&third, words[1]);
-    check(strcmp(words[0], words[1]) != 0, "other pairs see others");
+    CHECK_SAY(strcmp(words[0], words[1]) != 0, "other pairs see others");
     faz_room_seal(in, sealed, 'x', text, sizeof text);
-    check(faz_room_open(in, out, 'x', sealed, sizeof sealed) && !faz_room_open(in, out, 'y', sealed, sizeof sealed),
-          "all who have the code");
-    check(!faz_room_open(elsewhere, out, 'x', sealed, sizeof sealed), "who has another code");
+    CHECK_SAY(faz_room_open(in, out, 'x', sealed, sizeof sealed) && !faz_room_open(in, out, 'y', sealed, sizeof sealed), "all who have the code");
+    CHECK_SAY(!faz_room_open(elsewhere, out, 'x', sealed, sizeof sealed), "who has another code");
 }
 
 /* The zero key, and points of small order, give no pair. */
@@ -115,9 +106,9 @@ static void check_bad_keys(const room *in) {
     uint8_t open[KEY], secret[KEY], bad[KEY] = {0};
     pair one;
     crypto_kx_keypair(open, secret);
-    check(!faz_pair_of(&one, in, open, secret, bad), "a key of zeros");
+    CHECK_SAY(!faz_pair_of(&one, in, open, secret, bad), "a key of zeros");
     bad[0] = 1;
-    check(!faz_pair_of(&one, in, open, secret, bad), "a key of small order");
+    CHECK_SAY(!faz_pair_of(&one, in, open, secret, bad), "a key of small order");
 }
 
 static void check_vouching(void) {
@@ -125,27 +116,27 @@ static void check_vouching(void) {
     faz_host_draw(open, secret);
     randombytes_buf(speaks, KEY);
     faz_host_vouch(proof, secret, speaks);
-    check(faz_host_vouched(proof, open, speaks), "the host's word");
+    CHECK_SAY(faz_host_vouched(proof, open, speaks), "the host's word");
     faz_host_draw(other, secret);
-    check(!faz_host_vouched(proof, other, speaks), "another host's");
+    CHECK_SAY(!faz_host_vouched(proof, other, speaks), "another host's");
     speaks[7] ^= 1;
-    check(!faz_host_vouched(proof, open, speaks), "for another key");
+    CHECK_SAY(!faz_host_vouched(proof, open, speaks), "for another key");
 }
 
 /* So many keys that were here are known, and the oldest one is forgotten then. */
 static void check_seen(void) {
     static seen_keys seen;
     uint8_t open[KEY] = {0}, first[KEY] = {0};
-    check(!faz_seen_has(&seen, open), "no key was here");
+    CHECK_SAY(!faz_seen_has(&seen, open), "no key was here");
     for (uint32_t at = 0; at < 4096; at++) {
         memcpy(open, &at, sizeof at);
         faz_seen_note(&seen, open);
     }
-    check(faz_seen_has(&seen, open) && faz_seen_has(&seen, first), "4,096 keys");
+    CHECK_SAY(faz_seen_has(&seen, open) && faz_seen_has(&seen, first), "4,096 keys");
     open[KEY - 1] = 1;
-    check(!faz_seen_has(&seen, open), "another one");
+    CHECK_SAY(!faz_seen_has(&seen, open), "another one");
     faz_seen_note(&seen, open);
-    check(faz_seen_has(&seen, open) && !faz_seen_has(&seen, first), "and then the first one is forgotten");
+    CHECK_SAY(faz_seen_has(&seen, open) && !faz_seen_has(&seen, first), "and then the first one is forgotten");
 }
 
 /* A table comes back as it was, and none is read whose places don't hold together, or that was cut short. */
@@ -165,32 +156,32 @@ static void check_tables(const room *in) {
         randombytes_buf(text->member[at].inbox, INBOX);
     }
     size_t length = faz_answer_write(&written, &host, message);
-    check(length < BROKER_MESSAGE && faz_answer_read(&came, &joins, message, length), "the longest answer");
-    check(came.counter == 3 && came.what == BEGINS && strcmp(came.name, "Ann") == 0 && came.table.me == 1 && came.table.number == 77
-              && memcmp(came.table.owners, text->owners, sizeof text->owners) == 0
-              && memcmp(came.table.member, text->member, sizeof text->member) == 0
-              && memcmp(came.table.common, text->common, FAZ_LOBBY_COMMON) == 0, "it is read as it was written");
+    CHECK_SAY(length < BROKER_MESSAGE && faz_answer_read(&came, &joins, message, length), "the longest answer");
+    CHECK_SAY(came.counter == 3 && came.what == BEGINS && strcmp(came.name, "Ann") == 0 && came.table.me == 1 && came.table.number == 77
+                  && memcmp(came.table.owners, text->owners, sizeof text->owners) == 0
+                  && memcmp(came.table.member, text->member, sizeof text->member) == 0
+                  && memcmp(came.table.common, text->common, FAZ_LOBBY_COMMON) == 0, "it is read as it was written");
     text->owners[3] = 8;
-    check(!faz_answer_read(&came, &joins, message, faz_answer_write(&written, &host, message)), "a player of no machine");
+    CHECK_SAY(!faz_answer_read(&came, &joins, message, faz_answer_write(&written, &host, message)), "a player of no machine");
     text->owners[3] = 3;
     text->me = 8;
-    check(!faz_answer_read(&came, &joins, message, faz_answer_write(&written, &host, message)), "a place that isn't there");
+    CHECK_SAY(!faz_answer_read(&came, &joins, message, faz_answer_write(&written, &host, message)), "a place that isn't there");
     text->me = 1;
     text->players = 7;
-    check(!faz_answer_read(&came, &joins, message, faz_answer_write(&written, &host, message)), "an owner of no player");
+    CHECK_SAY(!faz_answer_read(&came, &joins, message, faz_answer_write(&written, &host, message)), "an owner of no player");
     text->players = 8;
     member one = text->member[7];
     memcpy(text->member[7].open, text->member[2].open, KEY);
-    check(!faz_answer_read(&came, &joins, message, faz_answer_write(&written, &host, message)), "a key of two machines");
+    CHECK_SAY(!faz_answer_read(&came, &joins, message, faz_answer_write(&written, &host, message)), "a key of two machines");
     text->member[7] = one;
     for (size_t cut = 0; cut < length; cut++)
-        check(!faz_answer_read(&came, &joins, message, cut), "cut short");
+        CHECK_SAY(!faz_answer_read(&came, &joins, message, cut), "cut short");
 }
 
 static void check_name(const char *given, const char *due) {
     char name[FAZ_LOBBY_NAME_ROOM];
     faz_name_clean(name, given);
-    check(strcmp(name, due) == 0, name);
+    CHECK_SAY(strcmp(name, due) == 0, "%s", name);
 }
 
 /* Where a server is, as a command line says it; null: it says it of none. */
@@ -200,12 +191,12 @@ static void check_server(const char *said, const char *address, uint16_t port) {
     lobby_words words = {.broker = "nats://[2001:db8::10]:4222", .stun = said}, with_relay = {.broker = words.broker, .relay = relay};
     faz_lobby_settings stun = {0}, settings = {0};
     bool is_read = faz_lobby_words_read(&words, &stun) == NULL;
-    check(is_read == (faz_lobby_words_read(&with_relay, &settings) == NULL) && is_read == (address != NULL), said);
+    CHECK_SAY(is_read == (faz_lobby_words_read(&with_relay, &settings) == NULL) && is_read == (address != NULL), "%s", said);
     if (!is_read || address == NULL)
         return;
-    check(strcmp(stun.stun, address) == 0 && stun.stun_port == port, said);
-    check(settings.relay_count == 1 && strcmp(settings.relays[0].address, address) == 0 && settings.relays[0].port == port
-              && strcmp(settings.relays[0].user, "17:friends") == 0 && strcmp(settings.relays[0].password, "x") == 0, relay);
+    CHECK_SAY(strcmp(stun.stun, address) == 0 && stun.stun_port == port, "%s", said);
+    CHECK_SAY(settings.relay_count == 1 && strcmp(settings.relays[0].address, address) == 0 && settings.relays[0].port == port
+                  && strcmp(settings.relays[0].user, "17:friends") == 0 && strcmp(settings.relays[0].password, "x") == 0, "%s", relay);
 }
 
 static void check_servers(void) {
@@ -227,7 +218,7 @@ static void check_told(faz_lobby_why why, const char *due) {
     faz_lobby_event event = {.what = FAZ_LOBBY_CODE, .why = why, .text = "KXQ-4H7P"};
     char text[FAZ_LOBBY_TEXT_ROOM];
     faz_lobby_words_of(NULL, &event, text, sizeof text);
-    check(strcmp(text, due) == 0, text);
+    CHECK_SAY(strcmp(text, due) == 0, "%s", text);
 }
 
 static int say_code(void) {
@@ -267,5 +258,5 @@ int main(int count, char **words) {
     check_name("\xc2\x9b" "31m", "??31m");
     check_name("0123456789012345678901234567890123", "0123456789012345678901234567890");
     check_name("012345678901234567890123456789\xc3\xab", "012345678901234567890123456789");
-    return failed != 0;
+    return checks_end();
 }

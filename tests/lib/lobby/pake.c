@@ -2,6 +2,7 @@
 #define _POSIX_C_SOURCE 200809L
 
 #include "../../../lib/lobby/pake.h"
+#include "../../check.h"
 
 #include <stdio.h>
 #include <stdlib.h>
@@ -9,15 +10,6 @@
 #include <time.h>
 
 enum { TURNS = 8 };
-
-static int failed;
-
-static void check(bool is_so, const char *what) {
-    if (is_so)
-        return;
-    printf("failed: %s\n", what);
-    failed++;
-}
 
 typedef struct result {
     pake_answer host, joins; /* the last of each */
@@ -66,18 +58,18 @@ int main(void) {
     double begun = now();
     result right = talk("4H7P", "4H7P", "KXQ", -1), again = talk("4H7P", "4H7P", "KXQ", -1);
     printf("both ends take %.1f ms; %d messages, the longest %zu bytes\n", (now() - begun) / 2, right.said, right.longest);
-    check(has_key(&right) && has_key(&again), "the same secret");
-    check(right.said == 4, "two messages of each");
-    check(memcmp(right.key, again.key, PAKE_KEY) != 0, "a key is another one each time");
+    CHECK_SAY(has_key(&right) && has_key(&again), "the same secret");
+    CHECK_SAY(right.said == 4, "two messages of each");
+    CHECK_SAY(memcmp(right.key, again.key, PAKE_KEY) != 0, "a key is another one each time");
     result wrong = talk("4H7P", "4H7Q", "KXQ", -1);
-    check(wrong.host == PAKE_WRONG && wrong.joins != PAKE_DONE && memcmp(wrong.key, wrong.host_key, PAKE_KEY) != 0, "another secret");
+    CHECK_SAY(wrong.host == PAKE_WRONG && wrong.joins != PAKE_DONE && memcmp(wrong.key, wrong.host_key, PAKE_KEY) != 0, "another secret");
     wrong = talk("4H7P", "", "KXQ", -1);
-    check(wrong.joins != PAKE_DONE && wrong.host != PAKE_DONE, "no secret");
+    CHECK_SAY(wrong.joins != PAKE_DONE && wrong.host != PAKE_DONE, "no secret");
     wrong = talk("4H7P", "4H7P", "KXR", -1);
-    check(wrong.joins != PAKE_DONE && wrong.host != PAKE_DONE, "another name");
+    CHECK_SAY(wrong.joins != PAKE_DONE && wrong.host != PAKE_DONE, "another name");
     for (int times = 0; times < 40; times++) {
         result changed = talk("4H7P", "4H7P", "KXQ", times % 4);
-        check(!has_key(&changed), "a message with a changed bit");
+        CHECK_SAY(!has_key(&changed), "a message with a changed bit");
     }
     for (int times = 0; times < 200; times++) {
         uint8_t junk[PAKE_BYTES], out[PAKE_BYTES];
@@ -87,7 +79,7 @@ int main(void) {
             junk[at] = (uint8_t)rand();
         if (times % 2 == 0)
             memcpy(junk, "\x16\x03\x03", 3);
-        check(faz_pake_turn(host, junk, (size_t)rand() % sizeof junk, out, &size) != PAKE_DONE, "junk");
+        CHECK_SAY(faz_pake_turn(host, junk, (size_t)rand() % sizeof junk, out, &size) != PAKE_DONE, "junk");
         faz_pake_close(host);
     }
     pake *host = faz_pake_open(true, "KXQ", "4H7P");
@@ -96,10 +88,10 @@ int main(void) {
     pake *joins = faz_pake_open(false, "KXQ", "4H7P");
     faz_pake_turn(joins, NULL, 0, out, &size);
     for (size_t at = 0; at < size; at++)
-        check(faz_pake_turn(host, out + at, 1, other, &length) == PAKE_MORE, "byte by byte");
-    check(length > 0, "the last byte is answered");
+        CHECK_SAY(faz_pake_turn(host, out + at, 1, other, &length) == PAKE_MORE, "byte by byte");
+    CHECK_SAY(length > 0, "the last byte is answered");
     faz_pake_close(joins);
     faz_pake_close(host);
     faz_pake_close(NULL);
-    return failed != 0;
+    return checks_end();
 }

@@ -2,6 +2,7 @@
  * nothing, and such as end each connection; and lobbies that are closed meanwhile. It is linked with --wrap for getaddrinfo,
  * natsOptions_Create and natsOptions_Destroy. */
 #include "../../../lib/lobby/inside.h"
+#include "../../check.h"
 
 #include <arpa/inet.h>
 #include <nats/nats.h>
@@ -23,14 +24,6 @@ int __wrap_getaddrinfo(const char *name, const char *service, const struct addri
 
 static atomic_bool is_slow; /* names have no answer until it is false */
 static atomic_int asked, answered, begun, ended;
-static int failed;
-
-static void check(bool is_so, const char *what) {
-    if (is_so)
-        return;
-    printf("failed: %s\n", what);
-    failed++;
-}
 
 static void wait_a_little(void) {
     nanosleep(&(struct timespec){.tv_nsec = 1000000}, NULL);
@@ -80,7 +73,7 @@ static faz_lobby *opened(const char *broker, const char *stun, const char *relay
     for (uint32_t at = 0; at < relays; at++)
         settings.relays[at] = (faz_line_relay){relay, (uint16_t)(1000 + at), "user", "before", at % 2 != 0};
     faz_lobby *self = faz_lobby_host(&settings, &why);
-    check(self != NULL, why != NULL ? why : "a host");
+    CHECK_SAY(self != NULL, "%s", why != NULL ? why : "a host");
     return self;
 }
 
@@ -113,17 +106,19 @@ static bool is_away_told(faz_lobby *self) {
 
 static void test_families(void) {
     faz_lobby *self = opened(NOBODY, "both.example", "both.example", 5);
-    check(has_addresses(self) && self->line.relay_count == 8, "eight relays of five with both families");
+    CHECK_SAY(has_addresses(self) && self->line.relay_count == 8, "eight relays of five with both families");
     for (uint32_t at = 0; at < 8; at++)
-        check(is_relay(self, at, at < 5 ? "2001:db8::5" : "127.0.0.5", (uint16_t)(1000 + at % 5), "before"), "a relay of both families");
-    check(self->line.stun != NULL && strcmp(self->line.stun, "127.0.0.5") == 0, "the address of IPv4 of a STUN server");
-    check(!is_away_told(self), "all have addresses");
+        CHECK_SAY(is_relay(self, at, at < 5 ? "2001:db8::5" : "127.0.0.5", (uint16_t)(1000 + at % 5), "before"),
+                  "a relay of both families");
+    CHECK_SAY(self->line.stun != NULL && strcmp(self->line.stun, "127.0.0.5") == 0, "the address of IPv4 of a STUN server");
+    CHECK_SAY(!is_away_told(self), "all have addresses");
     faz_lobby_close(self);
 }
 
 static void test_nowhere(void) {
     faz_lobby *self = opened(NOBODY, "both.example", "nowhere.example", 2);
-    check(has_addresses(self) && self->line.relay_count == 0 && self->line.stun != NULL && is_away_told(self), "relays without addresses");
+    CHECK_SAY(has_addresses(self) && self->line.relay_count == 0 && self->line.stun != NULL && is_away_told(self),
+              "relays without addresses");
     faz_lobby_close(self);
 }
 
@@ -137,12 +132,12 @@ static void test_overtaken(const char *address, const char *due) {
         faz_lobby_turn(self, now);
         wait_a_little();
     }
-    check(self->looking != NULL && !self->has_addresses, "names are looked up");
+    CHECK_SAY(self->looking != NULL && !self->has_addresses, "names are looked up");
     strcpy(answer.relay[0].address, address);
     faz_lobby_take_servers(self, &answer);
     is_slow = false;
-    check(has_addresses(self) && self->line.relay_count > 0 && is_relay(self, 0, due, 7, "later"), "the relay that came later");
-    check(self->line.stun != NULL && strcmp(self->line.stun, "127.0.0.4") == 0 && !is_away_told(self), "its STUN server");
+    CHECK_SAY(has_addresses(self) && self->line.relay_count > 0 && is_relay(self, 0, due, 7, "later"), "the relay that came later");
+    CHECK_SAY(self->line.stun != NULL && strcmp(self->line.stun, "127.0.0.4") == 0 && !is_away_told(self), "its STUN server");
     faz_lobby_close(self);
 }
 
@@ -159,7 +154,7 @@ static void test_closed(void) {
     is_slow = false;
     for (uint32_t now = 0; now < PATIENCE && answered < after + 3; now++)
         wait_a_little();
-    check(answered == after + 3, "what was begun is ended");
+    CHECK_SAY(answered == after + 3, "what was begun is ended");
 }
 
 /* ---- brokers: one that takes connections and says nothing, and one that ends each when it is there */
@@ -206,8 +201,8 @@ static void begin_broker(bool answers) {
     server.answers = answers;
     server.is_over = false;
     server.socket = socket(AF_INET, SOCK_STREAM, 0);
-    check(bind(server.socket, (const struct sockaddr *)&at, sizeof at) == 0 && listen(server.socket, 64) == 0
-              && getsockname(server.socket, (struct sockaddr *)&at, &length) == 0, "a broker");
+    CHECK_SAY(bind(server.socket, (const struct sockaddr *)&at, sizeof at) == 0 && listen(server.socket, 64) == 0
+                  && getsockname(server.socket, (struct sockaddr *)&at, &length) == 0, "a broker");
     snprintf(server.url, sizeof server.url, "nats://127.0.0.1:%u", (unsigned)ntohs(at.sin_port));
     if (answers)
         pthread_create(&server.thread, NULL, run_broker, NULL);
@@ -249,7 +244,7 @@ static void test_ending(void) {
         faz_lobby_turn(self, now);
         wait_a_little();
     }
-    check(server.taken >= before + 3, "another connection each time");
+    CHECK_SAY(server.taken >= before + 3, "another connection each time");
     faz_lobby_close(self);
     end_broker();
 }
@@ -265,5 +260,5 @@ int main(void) {
     for (uint32_t waited = 0; waited < LAST || (waited < PATIENCE && ended < begun); waited++)
         wait_a_little();
     nats_CloseAndWait(PATIENCE);
-    return failed != 0;
+    return checks_end();
 }

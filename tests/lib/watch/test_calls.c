@@ -6,6 +6,7 @@
 #include "faz_cast.h"
 #include "../../../programs/duel/duel_game.h"
 #include "faz_view.h"
+#include "../../check.h"
 
 #include <arpa/inet.h>
 #include <stdio.h>
@@ -24,7 +25,6 @@ static struct {
     duel field;
     const char *longest;
     double most;
-    int failed;
 } self;
 
 static double now(void) {
@@ -40,10 +40,7 @@ static void note(const char *call, double begun, double may) {
         self.most = took;
         self.longest = call;
     }
-    if (took > MOST) {
-        printf("%s took %.0f ms\n", call, took + may);
-        self.failed = 1;
-    }
+    CHECK_SAY(took <= MOST, "%s took %.0f ms", call, took + may);
 }
 
 #define TIMED(call) do { double begun = now(); call; note(#call, begun, 0); } while (0)
@@ -115,5 +112,5 @@ int main(int count, char **words) {
             nanosleep(&(struct timespec){ .tv_nsec = 500000 }, NULL);
     }
     end((uint32_t)atoi(words[4]));
-    return self.failed;
+    return checks_end();
 }

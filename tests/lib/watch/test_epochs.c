@@ -9,12 +9,12 @@
 #include "../../../programs/common/bot.h"
 #include "../../../programs/common/clock.h"
 
+#define CHECKS_OF "turn %u", (unsigned)turn
+#include "../../check.h"
+
 #include <stdio.h>
 #include <stdlib.h>
 #include <string.h>
-
-#define MUST(condition) must((condition), #condition, __LINE__)
-#define OK(call) MUST((call) == FAZGROND_OK)
 
 enum { MACHINES = 2, SLOTS = 64, FRAMES = 2000, ROOM = FRAMES + 64, LATE = 3, UNDER_WAY = 64, TURN = 16, SEAMS = 5 };
 
@@ -44,13 +44,6 @@ typedef struct machine {
 
 static machine all[MACHINES];
 static uint32_t turn;
-
-static void must(bool is_so, const char *what, int line) {
-    if (!is_so) {
-        fprintf(stderr, "turn %u, line %d: %s\n", (unsigned)turn, line, what);
-        exit(1);
-    }
-}
 
 /* A match of two, whose machine `me` has player `me` + 1. */
 static void begin(uint32_t me, const char *broker, const char *name) {

@@ -3,19 +3,11 @@
 #include "../../../programs/duel/duel_game.h"
 #include "../../../lib/sha256.h"
 #include "../../../lib/watch/timeline.h"
+#include "../../check.h"
 
 #include <stdio.h>
 #include <stdlib.h>
 #include <string.h>
-
-#define MUST(condition) must((condition), #condition, __LINE__)
-
-static void must(bool is_so, const char *what, int line) {
-    if (!is_so) {
-        fprintf(stderr, "line %d: %s\n", line, what);
-        exit(1);
-    }
-}
 
 enum { NUMBER = 0x7766 };
 

@@ -3,6 +3,7 @@
 #include "faz_cast.h"
 #include "../../../programs/duel/duel_game.h"
 #include "faz_view.h"
+#include "../../check.h"
 
 #include <arpa/inet.h>
 #include <stdio.h>
@@ -12,15 +13,6 @@
 
 /* Milliseconds: a game's turn has less than this, and a broker's answer is waited for longer. */
 enum { TURN = 300, ROOM = 64 };
-
-static int failed;
-
-static void check(bool is_so, const char *what) {
-    if (is_so)
-        return;
-    printf("failed: %s\n", what);
-    failed++;
-}
 
 static long now(void) {
     struct timespec time;
@@ -50,14 +42,14 @@ static void cast(const char *servers) {
     long begun = now();
     faz_cast *made = faz_cast_open(&(faz_cast_settings){ .servers = servers, .match = "cup", .me = "me", .game = &duel_game,
                                                          .opening = &opening, .session = &session, .rate = 60 }, &why);
-    check(made != NULL && now() - begun < TURN, "a match is published at once");
+    CHECK_SAY(made != NULL && now() - begun < TURN, "a match is published at once");
     begun = now();
     for (int frame = 0; frame < 600; frame++)
         faz_cast_row(made, &row);
-    check(now() - begun < TURN, "rows are taken at once");
+    CHECK_SAY(now() - begun < TURN, "rows are taken at once");
     begun = now();
-    check(!faz_cast_close(made, 10, &state) && now() - begun < 10 + TURN, "it is closed without the broker");
-    check(state.rows == 600 && state.stored == 0, "nothing was stored");
+    CHECK_SAY(!faz_cast_close(made, 10, &state) && now() - begun < 10 + TURN, "it is closed without the broker");
+    CHECK_SAY(state.rows == 600 && state.stored == 0, "nothing was stored");
 }
 
 static void view(const char *servers) {
@@ -65,13 +57,13 @@ static void view(const char *servers) {
     faz_view_state state;
     long begun = now();
     faz_view *made = faz_view_open(&(faz_view_settings){ .servers = servers, .match = "cup", .game = &duel_game, .from = FAZ_LATEST }, &why);
-    check(made != NULL && now() - begun < TURN, "a match is watched at once");
+    CHECK_SAY(made != NULL && now() - begun < TURN, "a match is watched at once");
     begun = now();
     faz_view_look(made, &state);
-    check(!state.is_shown && now() - begun < TURN, "nothing is shown");
+    CHECK_SAY(!state.is_shown && now() - begun < TURN, "nothing is shown");
     begun = now();
     faz_view_close(made);
-    check(now() - begun < TURN, "it is closed");
+    CHECK_SAY(now() - begun < TURN, "it is closed");
 }
 
 /* Texts that are no servers are refused when it is opened. */
@@ -79,8 +71,8 @@ static void refuse(void) {
     static const char *const texts[] = { "", "nats://", "http://127.0.0.1:4222", "nats://127.0.0.1:4222,", "nats://a b", ",tls://a" };
     for (size_t at = 0; at < sizeof texts / sizeof *texts; at++) {
         const char *why = NULL;
-        check(faz_view_open(&(faz_view_settings){ .servers = texts[at], .match = "cup", .game = &duel_game }, &why) == NULL && why != NULL,
-              texts[at]);
+        CHECK_SAY(faz_view_open(&(faz_view_settings){ .servers = texts[at], .match = "cup", .game = &duel_game }, &why) == NULL
+                      && why != NULL, "%s", texts[at]);
     }
 }
 
@@ -93,5 +85,5 @@ int main(void) {
     view(servers);
     refuse();
     close(port);
-    return failed != 0;
+    return checks_end();
 }

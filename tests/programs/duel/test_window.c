@@ -1,5 +1,6 @@
 /* Tests that every window is on the screen, those of the players and that of who watches, and what is struck there. */
 #include "../../../programs/common/window.c"
+#include "../../check.h"
 
 #include <stdio.h>
 
@@ -22,22 +23,16 @@ static bool is_letter_told(void) {
 }
 
 int main(void) {
-    int failed = 0;
     for (int player = 1; player <= DUEL_SHIPS + 1; player++) {
         SDL_Rect screen, seen = { 0, 0, 0, 0 };
         if (!window_open(player) || SDL_GetDisplayUsableBounds(0, &screen) != 0)
             return fputs("no window can be opened\n", stderr), 2;
         SDL_GetWindowPosition(window, &seen.x, &seen.y);
         SDL_GetWindowSize(window, &seen.w, &seen.h);
-        if (overhang(seen.x, seen.w, screen.x, screen.w) + overhang(seen.y, seen.h, screen.y, screen.h) > 0) {
-            fprintf(stderr, "the window of %d stands at %d,%d\n", player, seen.x, seen.y);
-            failed++;
-        }
-        if (!is_letter_told()) {
-            fprintf(stderr, "what is struck in the window of %d isn't told\n", player);
-            failed++;
-        }
+        CHECK_SAY(overhang(seen.x, seen.w, screen.x, screen.w) + overhang(seen.y, seen.h, screen.y, screen.h) == 0,
+                  "the window of %d stands at %d,%d", player, seen.x, seen.y);
+        CHECK_SAY(is_letter_told(), "what is struck in the window of %d isn't told", player);
         window_close();
     }
-    return failed != 0;
+    return checks_end();
 }
