@@ -2,7 +2,7 @@
 # `make NAME` builds what meson.build has under that name; `make install` installs libraries and headers. The proved library is the one that
 # ./prove made here, or else, as with RELEASE=1, that of the archive in release/. What else is heard stands in build/configure.
 OUT ?= out
-NAMES := $(or $(filter-out clean install,$(MAKECMDGOALS)),all)
+NAMES := $(or $(filter-out clean install,$(MAKECMDGOALS)),$(if $(filter install,$(MAKECMDGOALS)),installed,all))
 export RELEASE FAZGROND_C CC CFLAGS LDFLAGS WERROR SANITIZE PREFIX LIB SECONDS
 
 $(NAMES): built
@@ -11,7 +11,12 @@ $(NAMES): built
 built:
 	@build/configure $(OUT) $(CROSS)
 	@ninja -C $(OUT) $(if $(findstring s,$(firstword -$(MAKEFLAGS))),--quiet) $(NAMES)
-	@$(if $(filter all,$(NAMES)),tests/setup --build --missing)
+	@$(if $(filter all,$(NAMES)),$(TELL))
+
+define TELL
+missing=$$(tests/setup --build --missing); [ -z "$$missing" ] || \
+    printf '%s\n' "What is missing here, and what isn't built without it (tests/setup --build installs it, as root):" "$$missing"
+endef
 
 install: built
 	@meson install -C $(OUT) --no-rebuild $(if $(findstring s,$(firstword -$(MAKEFLAGS))),--quiet)
