@@ -1,4 +1,5 @@
-# For tests: sourced, it has a folder $work, counts of checks, and, at the top, machines that play the duel.
+# For tests: sourced at the top, it has a folder $work, counts of checks, and machines that play the duel of the folder $OUT.
+OUT=${OUT:-$PWD/out}
 work=$(mktemp -d) || exit 2
 pids=
 trap 'kill $pids 2> /dev/null; rm -rf -- "$work"' EXIT
@@ -7,15 +8,12 @@ failed=0
 strict="-Wall -Wextra -Wpedantic -Werror -Iinclude"
 clean="-g -O1 -fsanitize=address,undefined -fno-sanitize-recover=all"
 
-# A check: its name, and a command. Machines play by the clock here, and on a busy machine one may stand still for longer than the others
-# wait: what fails is tried once more, and that is said. $try is 2 then: what a broker keeps of the first try has other names.
+# A check: its name, and a command. What it said is shown if it failed.
 check() {
     what=$1
     shift
-    earlier=$pids
-    try=1
     begin_anew
-    if "$@" > "$work/said" 2>&1 || once_more "$@"; then
+    if "$@" > "$work/said" 2>&1; then
         passed=$((passed + 1))
     else
         failed=$((failed + 1))
@@ -24,24 +22,11 @@ check() {
     fi
 }
 
-# Tries it again, without the machines that the first try left.
-once_more() {
-    echo "once more: $what"
-    show_said
-    left=${pids#"$earlier"}
-    pids=$earlier
-    [ -z "$left" ] || { kill $left; kill -CONT $left; wait $left; } 2> /dev/null
-    try=2
-    begin_anew
-    "$@" > "$work/said" 2>&1
-}
-
-# Before each try.
+# Before each check.
 begin_anew() {
     :
 }
 
-# What a check said that failed.
 show_said() {
     cat "$work/said"
 }
@@ -53,19 +38,22 @@ has() {
     return 1
 }
 
-# A machine of a match, by its name, in the background: its words are after it. It ends after a minute at the latest, or
-# after so many seconds as $patience has.
+# A machine of a match, by its name, in the background: its words are after it. It ends after three minutes at the latest, or after so many
+# seconds as $patience has.
 machine() {
     machine_of duel "$@"
 }
 
-# The same, of a program in the folder.
+# The same, of a program in the folder, or of one that is named from the root on.
 machine_of() {
-    program=$1
+    case $1 in
+    /*) program=$1 ;;
+    *) program=$OUT/$1 ;;
+    esac
     name=$2
     shift 2
     forget $name
-    timeout "${patience:-60}" "$work/$program" --headless --speed 10 "$@" > "$work/$name.out" 2> "$work/$name.err" &
+    timeout "${patience:-180}" "$program" --headless --speed 10 "$@" > "$work/$name.out" 2> "$work/$name.err" &
     pids="$pids $!"
     eval "pid_$name=$!"
 }
@@ -73,7 +61,7 @@ machine_of() {
 # Whether programs in the folder say how they are begun, if that is asked for.
 helps() {
     for program; do
-        timeout 10 "$work/$program" --help > "$work/help" 2> "$work/help.err" && grep -q "^$program .*  " "$work/help" \
+        timeout 10 "$OUT/$program" --help > "$work/help" 2> "$work/help.err" && grep -q "^$program .*  " "$work/help" \
             && [ ! -s "$work/help.err" ] || return 1
     done
 }
@@ -100,7 +88,7 @@ began() {
         at=0
         until grep -q "the match begins" "$work/$name.err"; do
             at=$((at + 1))
-            if [ $at -ge 300 ]; then
+            if [ $at -ge 1000 ]; then
                 echo "machine $name didn't begin:"
                 cat "$work/$name.out" "$work/$name.err"
                 return 1

@@ -119,7 +119,7 @@ static void take_devices(const char *list) {
     for (int port = 0; list != NULL && port < PORTS; port++) {
         self.from.devices[port] = (uint32_t)strtoul(list, NULL, 10);
         list = strchr(list, ',');
-        list += list != NULL;
+        list = list != NULL ? list + 1 : NULL;
     }
 }
 

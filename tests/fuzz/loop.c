@@ -1,4 +1,5 @@
-/* In place of libFuzzer, where there is none: a loop of random inputs, and of changed ones. loop SECONDS [SEED] */
+/* In place of libFuzzer, where there is none: a loop of random inputs, and of changed ones. loop SECONDS [SEED [LEAST]]
+ * It ends after so many seconds, and LEAST inputs. */
 #include <stdint.h>
 #include <stdio.h>
 #include <stdlib.h>
@@ -23,10 +24,11 @@ int main(int count, char **words) {
     static size_t length[KEPT];
     time_t end = time(NULL) + (count > 1 ? atoi(words[1]) : 10);
     uint64_t first = count > 2 ? strtoull(words[2], NULL, 10) : (uint64_t)time(NULL), runs = 0;
+    uint64_t least = count > 3 ? strtoull(words[3], NULL, 10) : 0;
     seed = 0x9e3779b97f4a7c15u * (first + 1);
     printf("seed %llu\n", (unsigned long long)first);
     fflush(stdout);
-    for (; runs % 16 != 0 || time(NULL) < end; runs++) {
+    for (; runs % 16 != 0 || runs < least || time(NULL) < end; runs++) {
         uint8_t *bytes = kept[draw(KEPT)];
         size_t *size = &length[(size_t)(bytes - kept[0]) / MOST];
         if (*size == 0 || draw(4) == 0) {

@@ -1,4 +1,5 @@
 """Checks, which are counted, and what is skipped, with a word."""
+import os
 import shutil
 import subprocess
 from pathlib import Path
@@ -6,6 +7,7 @@ from pathlib import Path
 TESTS = Path(__file__).resolve().parent
 ROOT = TESTS.parent.parent.parent
 WEB = ROOT / "bindings/web"
+OUT = Path(os.environ.get("OUT") or ROOT / "out")
 SITE, PACKAGE = ROOT / "out/web/site", ROOT / "out/web/package"
 counts = {"passed": 0, "failed": 0}
 
@@ -26,6 +28,14 @@ def has(program, what):
         return True
     skip(f"{what} (no {program})")
     return False
+
+
+def built(name, what):
+    """A program of meson's, by its place in the folder, None if it isn't there."""
+    if (OUT / name).is_file():
+        return OUT / name
+    skip(f"{what} (no out/{name}: ninja -C out {name})")
+    return None
 
 
 def run(words, **more):

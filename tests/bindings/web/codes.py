@@ -12,7 +12,7 @@ import urllib.parse
 from pathlib import Path
 from types import SimpleNamespace
 
-from checks import ROOT, WEB, check, has, run, skip
+from checks import OUT, ROOT, WEB, check, has, run, skip
 from passes import Key, Pass
 from driver import driver
 from matches import expected, pages, result
@@ -255,7 +255,7 @@ def begun(port, room, conf, *creds):
         env = {**os.environ, "DOOR_PASSWORD": "door"}
         programs.append(subprocess.Popen(["nats-server", "-c", "conf"], env=env, **quiet))
         time.sleep(1)
-        door = [ROOT / "out/faz-door", "--broker", f"nats://127.0.0.1:{port}", *creds]
+        door = [OUT / "faz-door", "--broker", f"nats://127.0.0.1:{port}", *creds]
         programs.append(subprocess.Popen(door, env=env, **quiet))
         programs[-1].stdout.readline()
         yield
@@ -365,7 +365,7 @@ def over_tls(server, kind, port):
                     f"{room}/key.pem", "-out", f"{room}/it.pem", "-days", "2", "-subj", "/CN=localhost"])
         assert made.returncode == 0, made.stdout
         conf = conf.replace("/etc/ssl/certs/broker.pem", f"{room}/it.pem").replace("/etc/ssl/private/broker.key", f"{room}/key.pem")
-        served = SimpleNamespace(url=f"wss://{run([ROOT / 'out/faz-operator', room]).stdout.strip()}@127.0.0.1:{port + 2}")
+        served = SimpleNamespace(url=f"wss://{run([OUT / 'faz-operator', room]).stdout.strip()}@127.0.0.1:{port + 2}")
         creds = ["--creds", f"{room}/door.creds"]
         with begun(port, room, conf, *creds), driver(kind, believes=True) as one, driver(kind, believes=True) as other:
             one.go(url_of(server, served, "tls-0", short=1))
@@ -386,7 +386,7 @@ def by_bridge(served, code, port, *more):
 
 
 def native(served, *words):
-    line = [ROOT / "out/duel", "--headless", *words, "--broker", served.broker, "--name", "Cal"]
+    line = [OUT / "duel", "--headless", *words, "--broker", served.broker, "--name", "Cal"]
     return subprocess.Popen(line, stdin=subprocess.DEVNULL, stdout=subprocess.PIPE, stderr=subprocess.PIPE, text=True)
 
 
@@ -419,7 +419,7 @@ def bridged_by_code(server, served, kind, port, frames=1800):
     with pages((kind, url_of(server, served, name, short=1, **line))):
         bridge = by_bridge(served, code_of(server, name), port)
         number = next((found.group(1) for it in bridge.stderr if (found := re.search(r"--match (\d+)", it))), None)
-        duel = [ROOT / "out/duel", *words, "--match", number, port + 1, f"127.0.0.1:{port}", "local"]
+        duel = [OUT / "duel", *words, "--match", number, port + 1, f"127.0.0.1:{port}", "local"]
         game = subprocess.Popen([str(it) for it in duel], stdout=subprocess.PIPE, stderr=subprocess.DEVNULL, text=True)
         found = result(server, name)
         said = game.communicate(timeout=WAIT)[0]
@@ -534,7 +534,7 @@ def two_ask(server, served, kind):
 
 def one_code(server, kind, port):
     """Two pages of one browser, by a short code: some seconds, for the gate."""
-    if lacks("pages that meet by a code") or not has("cc", "pages that meet by a code"):
+    if lacks("pages that meet by a code"):
         return
     with serving(port) as served:
         code, found = met(server, served, (kind, kind), "one-code", {"short": 1})
@@ -543,7 +543,7 @@ def one_code(server, kind, port):
 
 
 def with_native(server, served, kinds, port):
-    duel = ROOT / "out/duel"
+    duel = OUT / "duel"
     has_codes = duel.is_file() and "has no codes" not in run([duel, "--join", "nonsense"]).stdout
     if not has_codes or run(["/usr/bin/python3", "-c", "import aiortc"]).returncode:
         skip("a page and a native game by a code (no out/duel with codes: make duel, or no python3-aiortc)")

@@ -7,7 +7,7 @@ import tempfile
 from pathlib import Path
 
 from browsers import Browser
-from checks import ROOT, check, run, skip
+from checks import OUT, ROOT, check, run, skip
 
 
 @contextlib.contextmanager
@@ -60,7 +60,7 @@ def expected(seed, frames, delays=(1, 1)):
 
 def alone(seed, frames):
     """The state of out/duel, with both ships in one program, whose words are for the frame in which they are given."""
-    duel = ROOT / "out/duel"
+    duel = OUT / "duel"
     if not duel.is_file():
         return skip("the state beside rollduel's, or that of out/duel (neither is here)")
     words = ["--headless", "--speed", 100, "--synctest", 1, "--bot", seed, "--frames", frames, 0, "local", "local"]

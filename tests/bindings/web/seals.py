@@ -6,7 +6,7 @@ import shutil
 import sys
 
 from bridges import strangers_end_nothing
-from checks import ROOT, TESTS, WEB, check, has, run, skip
+from checks import ROOT, TESTS, WEB, built, check, has, run, skip
 
 sys.path.insert(0, str(WEB))
 import meet  # noqa: E402
@@ -98,15 +98,10 @@ def cases(sodium):
     return {what: [digits(it) for it in of] for what, of in found.items()}
 
 
-def native_side(room):
+def native_side():
     """The other side of a short code, by GnuTLS."""
-    if not has("cc", "short codes beside GnuTLS") or run(["pkg-config", "--exists", "gnutls"]).returncode:
-        skip("short codes beside GnuTLS (no libgnutls28-dev)")
-        return []
-    sources = [TESTS / "pake_side.c", ROOT / "lib/lobby/pake.c"]
-    words = ["-std=c11", "-Wall", "-Wextra", "-Werror", "-O1", "-I", ROOT / "lib/lobby", *sources, "-lgnutls", "-o", room / "pake_side"]
-    made = run(["cc", *words])
-    return [room / "pake_side"] if check("pake_side.c compiles", made.returncode == 0, made.stdout) else []
+    side = built("tests/pake_side", "short codes beside GnuTLS")
+    return [side] if side else []
 
 
 def bridge_agrees(sodium):
@@ -137,7 +132,7 @@ def seals_agree(room):
         shutil.copy(TESTS / name, room)
     (room / "package.json").write_text('{"type": "module"}')
     (room / "cases").write_text(json.dumps(cases(sodium)))
-    said = run(["node", "--no-warnings", room / "seals.js", room / "cases", *native_side(room)])
+    said = run(["node", "--no-warnings", room / "seals.js", room / "cases", *native_side()])
     check("what is sealed, and codes", said.returncode == 0 and " checks, 0 failed" in said.stdout, said.stdout[-3000:])
     said = run(["node", "--no-warnings", room / "liars.js"])
     check("what liars can make a lobby do", said.returncode == 0 and " checks, 0 failed" in said.stdout, said.stdout[-3000:])

@@ -7,7 +7,7 @@ import tempfile
 import time
 from pathlib import Path
 
-from checks import ROOT, WEB, check, has, run, skip
+from checks import OUT, ROOT, WEB, check, has, run, skip
 from codes import by_codes
 from driver import driver
 from matches import expected, pages, play_url, result, two_pages
@@ -156,7 +156,7 @@ def wrong_texts(server, kind):
 # ---- native games
 
 def native_duel(what):
-    duel = ROOT / "out/duel"
+    duel = OUT / "duel"
     if not duel.is_file():
         skip(f"{what} (no out/duel: make duel)")
         return None
@@ -235,7 +235,7 @@ def watching(server, kind, port):
 def watched(server, kind, port, frames=1800):
     """A page watches a match that two native players publish, through the broker's WebSocket door."""
     what = f"a page that watches in {kind}"
-    duel, cast = native_duel(what), ROOT / "out/faz-cast"
+    duel, cast = native_duel(what), OUT / "faz-cast"
     if duel is None or not has("nats-server", what):
         return
     if not cast.is_file():

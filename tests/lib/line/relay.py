@@ -1,14 +1,15 @@
 #!/usr/bin/env python3
-"""A TURN server that gives whoever asks a place, and carries nothing: relay.py USER PASSWORD
+"""A TURN server that gives whoever asks a place, and carries nothing: relay.py USER PASSWORD PROGRAM
 
-It is written from RFC 8489 and RFC 8656. It writes its port, and ends with its input. It sees whoever asks as 198.51.100.7 or 2001:db8::7, and
-gives places at 203.0.113.10 and 2001:db8::a0.
+It is written from RFC 8489 and RFC 8656. The program is told its port, the user and the password, and ends it. It sees whoever asks as
+198.51.100.7 or 2001:db8::7, and gives places at 203.0.113.10 and 2001:db8::a0.
 """
 import hashlib
 import hmac
 import os
 import socket
 import struct
+import subprocess
 import sys
 import threading
 
@@ -66,8 +67,7 @@ def main():
             continue  # (this machine has no IPv6)
         port = at.getsockname()[1]
         threading.Thread(target=serve, args=(family, at), daemon=True).start()
-    print(port, flush=True)
-    sys.stdin.read()
+    sys.exit(subprocess.run([sys.argv[3], str(port), *sys.argv[1:3]]).returncode)
 
 
 main()

@@ -1,6 +1,5 @@
-/* Sealed datagrams, forged ones, and those that come again or in another order; and what sealing costs: tests/seal SEALED
- *
- * SEALED is what tests/xchacha.py says for the key and the counter below. */
+/* Sealed datagrams, forged ones, and those that come again or in another order; and what sealing costs: seal KEY COUNTER TEXT SEALED, of
+ * which the last is what xchacha.py makes of the others. */
 #define _POSIX_C_SOURCE 200809L
 
 #include "../../../lib/line/seal.h"
@@ -43,13 +42,13 @@ static void of_pairs(void) {
     CHECK_IS(faz_line_seal_open(&four, true, open, secret, zero), false);
 }
 
-static void as_another_does(const char *key, const char *sealed) {
+static void as_another_does(const char *key, const char *counter, const char *text, const char *sealed) {
     seal one = {0};
     uint8_t out[64];
     char hex[129];
     sodium_hex2bin(one.ours, SEAL_KEY, key, strlen(key), NULL, NULL, NULL);
-    one.sent = 0x0102030405;
-    size_t length = faz_line_seal_put(&one, out, (const uint8_t *)"a play", 6);
+    one.sent = strtoull(counter, NULL, 0);
+    size_t length = faz_line_seal_put(&one, out, (const uint8_t *)text, strlen(text));
     sodium_bin2hex(hex, sizeof hex, out, length);
     CHECK_SAY(strcmp(hex, sealed) == 0, "sealed %s\nnot    %s", hex, sealed);
 }
@@ -164,10 +163,10 @@ static void costs(size_t length) {
 }
 
 int main(int argc, char **argv) {
-    if (argc != 2 || sodium_init() < 0)
+    if (argc != 5 || strlen(argv[3]) > 40 || sodium_init() < 0)
         return 2;
     of_pairs();
-    as_another_does("000102030405060708090a0b0c0d0e0f101112131415161718191a1b1c1d1e1f", argv[1]);
+    as_another_does(argv[1], argv[2], argv[3], argv[4]);
     of_forgers();
     of_orders();
     of_notes();

@@ -1,7 +1,7 @@
 /* One machine of a line: talk ME OTHER FOLDER [OPTION..]
  *
  * Two of them give each other their open keys and their signals by files in FOLDER, each of them late, and then send datagrams with
- * the time in them, 60 a second. What was seen is told at the end.
+ * the time in them, 60 a second. What was seen is told at the end; those that it sent before one came are early.
  *
  *     --seconds N        how long, from the first datagram on (3)
  *     --within N         give up if none comes in so many seconds (20)
@@ -25,7 +25,7 @@
 #include <string.h>
 #include <time.h>
 
-/* Microseconds between two datagrams, and for how long those on their way are waited for. */
+/* Microseconds between two datagrams, and for how long it is waited for one more. */
 enum { PERIOD = 16667, TAIL = 700000, MOST = 20000, WAITING = 64 };
 
 typedef struct carried {
@@ -46,7 +46,7 @@ typedef struct talk {
     FILE *out, *in;
     carried waiting[WAITING];
     size_t first, last;
-    uint64_t begun, up, next, last_came, gap, gap_at, sent, count, broken, refused;
+    uint64_t begun, up, next, last_came, gap, gap_at, sent, early, count, broken, refused;
     uint32_t late[MOST];
     faz_line_state seen;
 } talk;
@@ -164,6 +164,7 @@ static void take(talk *self, const uint8_t *bytes, size_t length) {
     if (self->count == 0) {
         printf("first %.0f\n", (double)(now - self->begun) / 1000);
         self->up = now;
+        self->early = self->sent;
     } else if (now - self->last_came > self->gap) {
         self->gap = now - self->last_came;
         self->gap_at = now - self->up;
@@ -218,8 +219,8 @@ static void say_result(talk *self) {
         printf(" half %.1f most99 %.1f", self->late[count / 2] / 1000.0, self->late[count * 99 / 100] / 1000.0);
     printf(" gap %.0f at %.0f forged %" PRIu64 " again %" PRIu64 " misnamed %" PRIu64, (double)self->gap / 1000,
            (double)self->gap_at / 1000, state->forged, state->again, state->misnamed);
-    printf(" dropped %" PRIu64 " broken %" PRIu64 " signals_refused %" PRIu64 " number %016" PRIx64 "\n", state->dropped, self->broken,
-           self->refused, faz_line_number(self->line));
+    printf(" dropped %" PRIu64 " broken %" PRIu64 " signals_refused %" PRIu64 " early %" PRIu64 " number %016" PRIx64 "\n", state->dropped,
+           self->broken, self->refused, self->early, faz_line_number(self->line));
 }
 
 static void play(talk *self) {
@@ -247,7 +248,7 @@ static void play(talk *self) {
         say_changes(self, now);
         uint64_t end = self->up + (uint64_t)self->seconds * 1000000;
         send_due(self, now, self->up != 0 && now > end);
-        if (self->up != 0 && now > end + TAIL)
+        if (self->up != 0 && now > end + TAIL && now > self->last_came + TAIL)
             break;
         if (self->up == 0 && now - self->begun > (uint64_t)self->within * 1000000)
             break;

@@ -13,7 +13,7 @@
 #include <string.h>
 #include <time.h>
 
-enum { LOBBIES = 4, KEPT = 4096, WHATS = FAZ_LOBBY_UNANSWERED + 1, NAME_LENGTH = 8 };
+enum { LOBBIES = 4, KEPT = 4096, WHATS = FAZ_LOBBY_UNANSWERED + 1, NAME_LENGTH = 8, PATIENCE = 30000 /* ms */ };
 
 /* Names that junk doesn't have by chance. */
 static const char HOST[] = "Annalena", FRIEND[] = "Bobbejan";
@@ -73,15 +73,15 @@ static void wait_for(uint32_t milliseconds) {
     }
 }
 
-/* Whether a lobby comes to a stage in five seconds. */
+/* Whether a lobby comes to a stage in time. */
 static bool comes_to(int at, faz_lobby_stage stage) {
-    for (uint32_t begun = now(); now() - begun < 5000 && faz_lobby_stage_of(self.lobby[at]) != stage;)
+    for (uint32_t begun = now(); now() - begun < PATIENCE && faz_lobby_stage_of(self.lobby[at]) != stage;)
         turn();
     return faz_lobby_stage_of(self.lobby[at]) == stage;
 }
 
 static bool is_told(int at, faz_lobby_what what, unsigned times) {
-    for (uint32_t begun = now(); now() - begun < 5000 && self.told[at][what] < times;)
+    for (uint32_t begun = now(); now() - begun < PATIENCE && self.told[at][what] < times;)
         turn();
     return self.told[at][what] == times;
 }
@@ -122,16 +122,22 @@ static bool listen(bool does) {
         && natsConnection_FlushTimeout(self.stranger, 1000) == NATS_OK;
 }
 
+/* All that the broker has taken by now, and what comes right after that, as far as there is room. */
 static void hear(void) {
     natsMsg *message;
+    natsConnection_FlushTimeout(self.stranger, 5000);
     while (self.count < KEPT && natsSubscription_NextMsg(&message, self.all, 20) == NATS_OK)
         self.kept[self.count++] = message;
 }
 
 static void forget(void) {
-    hear();
-    while (self.count > 0)
-        natsMsg_Destroy(self.kept[--self.count]);
+    bool is_full = true;
+    while (is_full) {
+        hear();
+        is_full = self.count == KEPT;
+        while (self.count > 0)
+            natsMsg_Destroy(self.kept[--self.count]);
+    }
 }
 
 static void say(const char *subject, const char *reply, const uint8_t *bytes, size_t length) {
@@ -725,7 +731,7 @@ static faz_lobby_why try_wrong(void) {
     open_friend(2);
     strcpy(self.code, right);
     CHECK_SAY(is_told(2, FAZ_LOBBY_UNANSWERED, 1) && self.last[2].why == FAZ_LOBBY_WRONG_CODE, "that a code is wrong is told at once");
-    for (uint32_t begun = now(); now() - begun < 5000 && !self.lobby[0]->door.is_answered;)
+    for (uint32_t begun = now(); now() - begun < PATIENCE && !self.lobby[0]->door.is_answered;)
         turn(); /* the host may have another code now */
     wait_for(2000);
     CHECK_SAY(faz_lobby_stage_of(self.lobby[2]) == FAZ_LOBBY_MEETING, "it waits for three seconds");
@@ -899,7 +905,7 @@ static void test_false_knocked(void) {
     faz_lobby *slow = self.lobby[0];
     self.lobby[0] = NULL;
     open_friend(1);
-    for (uint32_t begun = now(); now() - begun < 5000 && self.lobby[1]->joining.stage != KNOCKS;)
+    for (uint32_t begun = now(); now() - begun < PATIENCE && self.lobby[1]->joining.stage != KNOCKS;)
         turn();
     for (int times = 0; times < 10; times++)
         say_knocked(true, 0);
@@ -921,7 +927,7 @@ static void test_false_knocked(void) {
 static void test_false_offer(void) {
     open_short(2);
     open_friend(1);
-    for (uint32_t begun = now(); now() - begun < 5000 && self.lobby[1]->joining.knock.step < 2;)
+    for (uint32_t begun = now(); now() - begun < PATIENCE && self.lobby[1]->joining.knock.step < 2;)
         turn();
     faz_lobby *joins = self.lobby[1];
     self.lobby[1] = NULL;
@@ -951,7 +957,7 @@ static void test_no_proof(void) {
     faz_lobby *slow = self.lobby[0];
     self.lobby[0] = NULL;
     open_friend(1);
-    for (uint32_t begun = now(); now() - begun < 5000 && self.lobby[1]->joining.stage != KNOCKS;)
+    for (uint32_t begun = now(); now() - begun < PATIENCE && self.lobby[1]->joining.stage != KNOCKS;)
         turn();
     for (int times = 0; times < 6; times++)
         say_knocked(false, 200);

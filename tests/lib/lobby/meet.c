@@ -9,16 +9,18 @@
  *     --open             and seats that nobody has when the host begins stay open
  *     --door             codes are short, and relays are the door's
  *     --asks yes|no      the host's player lets all in, or nobody
- *     --begin SECONDS    the host begins with those who are there after so many seconds
- *     --leave SECONDS    it leaves so many seconds after it was opened
+ *     --begin N          the host begins once so many machines are there
  *     --count N          so many datagrams from each of the others are waited for (60)
  *     --stay SECONDS     and it stays at least so long after that (0)
- *     --within N         give up after so many seconds (20) */
+ *     --within N         give up after so many seconds (40)
+ *
+ * By SIGUSR1 it stays no longer, and leaves a lobby whose match hasn't begun. */
 #define _POSIX_C_SOURCE 200809L
 
 #include "../../../lib/lobby/words.h"
 
 #include <inttypes.h>
+#include <signal.h>
 #include <stdio.h>
 #include <stdlib.h>
 #include <string.h>
@@ -37,11 +39,17 @@ static struct {
     faz_lobby *lobby;
     faz_lobby_match match;
     const char *asks;
-    long begin, leave, count, stay, within;
+    long begin, count, stay, within, friends;
     machine machine[FAZGROND_MACHINES];
     uint64_t begun, ready, due, wrong, most, turns, busy;
     bool stays_open, is_there, has_match, has_all, is_over; /* is_there: at the broker */
-} self = {.words = {.broker = "nats://127.0.0.1:4222"}, .begin = -1, .leave = -1, .count = 60, .within = 20};
+} self = {.words = {.broker = "nats://127.0.0.1:4222"}, .count = 60, .within = 40};
+
+static volatile sig_atomic_t is_asked_to_end;
+
+static void ask_to_end(int signal) {
+    is_asked_to_end = signal;
+}
 
 static uint64_t micros_of(clockid_t clock) {
     struct timespec now;
@@ -68,6 +76,7 @@ static void tell_events(void) {
                WHYS[event.why], event.name, event.text);
         if (event.what == FAZ_LOBBY_ASKS && self.settings.players > 0 && self.asks != NULL)
             printf("let in: %d\n", faz_lobby_let_in(self.lobby, event.who, strcmp(self.asks, "yes") == 0));
+        self.friends += (event.what == FAZ_LOBBY_JOINED) - (event.what == FAZ_LOBBY_LEFT);
         self.is_over = self.is_over || event.what == FAZ_LOBBY_ENDED;
         if (event.what == FAZ_LOBBY_COMES)
             faz_lobby_get_match(self.lobby, &self.match);
@@ -119,7 +128,7 @@ static bool is_done(void) {
     if (!self.has_all)
         since = micros();
     self.has_all = true;
-    return micros() - since > (uint64_t)(self.stay * 1000 + TAIL) * 1000;
+    return is_asked_to_end || micros() - since > (uint64_t)(self.stay * 1000 + TAIL) * 1000;
 }
 
 static void turn(void) {
@@ -143,10 +152,11 @@ static void turn(void) {
         receive();
         send_due();
     }
-    if (self.begin >= 0 && millis() > self.begin * 1000) {
+    if (self.begin > 0 && self.is_there && self.friends + 1 >= self.begin) {
         printf("begun: %d\n", faz_lobby_begin(self.lobby));
-        self.begin = -1;
+        self.begin = 0;
     }
+    self.is_over = self.is_over || (is_asked_to_end && !self.has_match);
 }
 
 static void say_result(void) {
@@ -196,8 +206,8 @@ static int read_option(char **at) {
     long number;
     if (read_text(at, "--broker", &words->broker) || read_text(at, "--trusted", &words->trusted) || read_text(at, "--name", &words->name)
         || read_text(at, "--stun", &words->stun) || read_text(at, "--relay", &words->relay) || read_text(at, "--tcp-relay", &words->tcp_relay)
-        || read_number(at, "--begin", &self.begin) || read_number(at, "--leave", &self.leave) || read_number(at, "--count", &self.count)
-        || read_number(at, "--stay", &self.stay) || read_number(at, "--within", &self.within))
+        || read_number(at, "--begin", &self.begin) || read_number(at, "--count", &self.count) || read_number(at, "--stay", &self.stay)
+        || read_number(at, "--within", &self.within))
         return 2;
     if (read_number(at, "--digest", &number)) {
         to->digest = (uint64_t)number;
@@ -247,7 +257,8 @@ int main(int count, char **words) {
         printf("refused: %s\n", why);
         return 3;
     }
-    while (!self.is_over && !is_done() && millis() < self.within * 1000 && (self.leave < 0 || millis() < self.leave * 1000)) {
+    sigaction(SIGUSR1, &(struct sigaction){.sa_handler = ask_to_end}, NULL);
+    while (!self.is_over && !is_done() && millis() < self.within * 1000) {
         turn();
         nanosleep(&(struct timespec){.tv_nsec = 1000000}, NULL);
     }

@@ -1,7 +1,7 @@
 /* A bad line between machines that are namespaces of this one: line MACHINES DELAY JITTER LOSS [order]. Machine N is the namespace
  * faz-PID-N with the address 10.77.0.N, from 1 on. Packets come DELAY milliseconds later, by up to JITTER more or less, so that
- * they overtake unless they are to keep their order, and LOSS of a hundred are lost. It needs root and no support of the kernel but TUN devices. It prints its own PID
- * once the line is there, goes on until it is told to end, and takes the namespaces away. */
+ * they overtake unless they are to keep their order, and LOSS of a hundred are lost. It needs root and no support of the kernel but TUN
+ * devices. It prints its own PID once the line is there, goes on until it is told to end, and takes the namespaces away. */
 #define _GNU_SOURCE
 #include <fcntl.h>
 #include <linux/if.h>

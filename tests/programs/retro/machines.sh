@@ -1,25 +1,11 @@
-# For tests in which machines play games of consoles: sourced at the top, after tests/checks.sh.
+# For what plays games of consoles: sourced at the top, after tests/checks.sh. Programs are those of the folder OUT.
+OUT=${OUT:-$PWD/out}
 FAZ_RETRO_HOME=$work
 export FAZ_RETRO_HOME
-headers=/usr/include/libretro-common
+retro=$OUT/faz-retro
 cores=$(echo /usr/lib/*/libretro)
-libraries="-lz -ldl -Wl,--export-dynamic-symbol=time"
-with="-std=c11 -Wall -Wextra -Werror -Iinclude -I$headers -pthread"
 game=
 frames=
-
-has_headers() {
-    [ -f $headers/libretro.h ] && [ -f /usr/include/zlib.h ] && return
-    echo "skipped: consoles' games (no libretro.h or zlib.h)"
-    return 1
-}
-
-# The program without a window, with the sanitizers, and what is named beside that.
-compile() {
-    sources=$(ls programs/retro/*.c lib/rejoin/*.c | grep -v 'window.c\|keys.c\|casting.c\|online.c')
-    check "faz-retro compiles without SDL" cc $with $clean -DRETRO_HEADLESS $sources "$@" out/libfazgrond.a \
-        -o "$work/faz-retro" $libraries
-}
 
 # Whether machines came to the same digests in all frames, and so did a straight run, which has none of the library.
 same() {
@@ -27,8 +13,17 @@ same() {
     for name; do
         cmp "$work/a.sums" "$work/$name.sums" || return 1
     done
-    "$work/faz-retro" --headless --play "$work/replay" --digests "$work/straight.sums" $game 2> "$work/straight.err" \
-        && cmp "$work/a.sums" "$work/straight.sums"
+    straight "$work/replay" && cmp "$work/a.sums" "$work/straight.sums"
+}
+
+# A straight run of a replay.
+straight() {
+    "$retro" --headless --play "$1" --digests "$work/straight.sums" $game 2> "$work/straight.err"
+}
+
+# Whether machines ended, and came to the same.
+alike() {
+    ended "$@" && same "$@"
 }
 
 # Whether machines played frames again: one may be behind the others for good, and then has nothing to play again.
@@ -57,4 +52,28 @@ held() {
         return 1
     done
     [ $sum -ge 20 ] || { echo "$sum corrections were held back"; false; }
+}
+
+# Lays a line (line.c), with these words: its machines are then the namespaces faz-$line-1 and so on.
+lay() {
+    rm -f "$work/line.out"
+    "$OUT/tests/retro_line" "$@" > "$work/line.out" 2> "$work/line.err" &
+    pid_line=$!
+    pids="$pids $pid_line"
+    until [ -s "$work/line.out" ]; do
+        kill -0 $pid_line 2> "$work/where" || { cat "$work/line.err"; return 1; }
+        sleep 0.1
+    done
+    read -r line < "$work/line.out"
+}
+
+take_up() {
+    kill $pid_line
+    wait $pid_line
+    cat "$work/line.err"
+}
+
+# Why no line can be laid here, if so.
+no_line() {
+    [ "$(id -u)" = 0 ] && [ -e /dev/net/tun ] && command -v ip > "$work/where" || echo "no root, no /dev/net/tun or no ip"
 }

@@ -1,0 +1,2 @@
+// The headers of lines and lobbies, as C++.
+#include <faz_lobby.h>
