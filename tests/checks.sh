@@ -5,8 +5,6 @@ pids=
 trap 'kill $pids 2> /dev/null; rm -rf -- "$work"' EXIT
 passed=0
 failed=0
-strict="-Wall -Wextra -Wpedantic -Werror -Iinclude"
-clean="-g -O1 -fsanitize=address,undefined -fno-sanitize-recover=all"
 
 # A check: its name, and a command. What it said is shown if it failed.
 check() {
@@ -104,12 +102,4 @@ agree() {
     for name; do
         diff "$work/$1.out" "$work/$name.out" || return 1
     done
-}
-
-# If the compiler has no sanitizers, none are used.
-without_sanitizers() {
-    echo 'int main(void) { return 0; }' > "$work/empty.c"
-    cc $clean "$work/empty.c" -o "$work/empty" 2> "$work/said" && "$work/empty" && return
-    echo "skipped: sanitizers (cc has none)"
-    clean=-O1
 }

@@ -70,6 +70,16 @@ def copied(top, to):
         link(top, to)
 
 
+def put(file, to):
+    """Puts a file or a folder in place of what is there."""
+    if to.is_dir() and not to.is_symlink():
+        shutil.rmtree(to)
+    else:
+        to.unlink(missing_ok=True)
+    to.parent.mkdir(parents=True, exist_ok=True)
+    copied(file, to)
+
+
 class Entry:
     """What is kept, or can be, of one thing that was shown."""
 
@@ -87,22 +97,23 @@ class Entry:
         os.utime(self.folder / "said")
         return said
 
-    def give(self, to):
-        """Puts the files that are kept into a folder, in place of those that are there."""
-        to.mkdir(exist_ok=True)
-        for file in (self.folder / "files").iterdir():
-            at = to / file.name
-            shutil.rmtree(at, ignore_errors=True)
-            at.unlink(missing_ok=True)
-            copied(file, at)
+    def kept(self):
+        """The same, and None if FAZGROND_ANEW asks for all to be shown anew."""
+        return None if os.environ.get("FAZGROND_ANEW") else self.said()
 
-    def take(self, said, files=()):
-        """Keeps what was said, and these files."""
+    def give(self, top):
+        """Puts what is kept into a folder, by the names under which it was taken."""
+        for name in (self.folder / "names").read_text().splitlines():
+            put(self.folder / "files" / name, top / name)
+
+    def take(self, said, top=None, names=()):
+        """Keeps what was said, and what has these names in a folder: files, and folders with all that is in them."""
         self.folder.parent.mkdir(parents=True, exist_ok=True)
         room = Path(tempfile.mkdtemp(prefix="new-", dir=self.folder.parent))
         (room / "files").mkdir()
-        for file in files:
-            copied(file, room / "files" / Path(file).name)
+        for name in names:
+            put(top / name, room / "files" / name)
+        (room / "names").write_text("".join(f"{it}\n" for it in names))
         (room / "content").write_text(content(room / "files"))
         (room / "said").write_text(said)
         shutil.rmtree(self.folder, ignore_errors=True)

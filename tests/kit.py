@@ -32,6 +32,12 @@ def crates_of(lines):
     return found
 
 
+def below(names):
+    """The names of these crates of crates.txt, and of all below them."""
+    crates = crates_of((ROOT / "crates.txt").read_text().splitlines())
+    return list(dict.fromkeys(it for name in names for it in [*crates[name].below, name]))
+
+
 def root_of(crate):
     """A crate's first file."""
     return "src/main.rt" if (crate.folder / "src/main.rt").is_file() else "src/lib.rt"
