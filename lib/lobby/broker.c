@@ -9,7 +9,7 @@
 #include <stdlib.h>
 #include <string.h>
 
-enum { SERVERS = 16, TEXT = 4096, HEARD = 4, KEPT = 256, KEPT_BYTES = 1 << 18 };
+enum { SERVERS = 16, TEXT = 4096, HEARD = 4, PAST = 8, KEPT = 256, KEPT_BYTES = 1 << 18 };
 
 /* Milliseconds. */
 enum { PATIENCE = 2000, AGAIN = 1000, RECONNECT = 200, PING = 2000, FLUSH = 150, LAST = 200 };
@@ -18,22 +18,24 @@ enum { PATIENCE = 2000, AGAIN = 1000, RECONNECT = 200, PING = 2000, FLUSH = 150,
  * family doesn't take both. */
 enum { IPV4_FIRST = 46 };
 
-/* A connection that is being made, or closed. */
+/* A connection that is being made, is there, or is being closed; and its subscriptions, with those that gave way to others. The thread by
+ * which libnats reads finds one under a lock, and uses it after that: so it stays until the connection, and that thread, has ended. */
 typedef struct task {
     char servers[TEXT], trusted[TEXT];
     char token[TOKEN_TEXT]; /* what it shows of its user; empty if the broker wants none */
     nkey user;
     natsConnection *connection;
+    natsSubscription *heard[HEARD], *past[PAST];
+    uint32_t passed;
     char why[BROKER_WHY];
 } task;
 
 struct broker {
     task settings;
     aside *making;
-    task *made; /* what `making` works with */
-    natsConnection *connection;
+    task *made;  /* what `making` works with */
+    task *there; /* the last one that was made, or null */
     char subject[HEARD][BROKER_SUBJECT];
-    natsSubscription *heard[HEARD];
     bool has_turned, is_wanted; /* a connection, in the place of the one that there is */
     uint32_t now, again_at;
     char why[BROKER_WHY];
@@ -133,6 +135,10 @@ static void forget(task *self) {
 static void drop(void *of) {
     task *self = of;
     natsConnection_Destroy(self->connection);
+    for (int at = 0; at < HEARD; at++)
+        natsSubscription_Destroy(self->heard[at]);
+    for (int at = 0; at < PAST; at++)
+        natsSubscription_Destroy(self->past[at]);
     forget(self);
 }
 
@@ -143,12 +149,12 @@ static void finish(void *of) {
     self->connection = NULL;
 }
 
-/* Has a connection closed beside the game. */
-static aside *finish_aside(natsConnection *connection) {
-    task *last = connection != NULL ? calloc(1, sizeof *last) : NULL;
+/* Has a connection closed beside the game, from which nothing is heard any more. Null is none. */
+static aside *finish_aside(task *last) {
     if (last == NULL)
         return NULL;
-    last->connection = connection;
+    for (int at = 0; at < HEARD; at++)
+        natsSubscription_Unsubscribe(last->heard[at]);
     aside *job = faz_aside_begin(finish, drop, last);
     if (job == NULL)
         drop(last);
@@ -213,19 +219,11 @@ bool faz_lobby_broker_has_pass(const broker *self) {
     return self->settings.token[0] != 0;
 }
 
-static void let_go(broker *self) {
-    for (int at = 0; at < HEARD; at++) {
-        natsSubscription_Destroy(self->heard[at]);
-        self->heard[at] = NULL;
-    }
-}
-
 void faz_lobby_broker_close(broker *self) {
     if (self == NULL)
         return;
     faz_aside_leave(self->making);
-    let_go(self);
-    aside *last = finish_aside(self->connection);
+    aside *last = finish_aside(self->there);
     for (int waited = 0; last != NULL && !faz_aside_is_over(last) && waited < LAST; waited++)
         faz_ice_wait();
     faz_aside_leave(last);
@@ -234,10 +232,20 @@ void faz_lobby_broker_close(broker *self) {
 }
 
 static void subscribe(broker *self, int at) {
-    if (self->connection == NULL || self->subject[at][0] == 0
-        || natsConnection_SubscribeSync(&self->heard[at], self->connection, self->subject[at]) != NATS_OK)
+    task *there = self->there;
+    if (there == NULL || self->subject[at][0] == 0
+        || natsConnection_SubscribeSync(&there->heard[at], there->connection, self->subject[at]) != NATS_OK)
         return;
-    natsSubscription_SetPendingLimits(self->heard[at], KEPT, KEPT_BYTES);
+    natsSubscription_SetPendingLimits(there->heard[at], KEPT, KEPT_BYTES);
+}
+
+/* A lobby does so five times at most: for four new codes, and as a match begins. Were there more than PAST, the oldest one would go. */
+static void unsubscribe(task *there, int at) {
+    natsSubscription **oldest = &there->past[there->passed++ % PAST];
+    natsSubscription_Unsubscribe(there->heard[at]);
+    natsSubscription_Destroy(*oldest);
+    *oldest = there->heard[at];
+    there->heard[at] = NULL;
 }
 
 static void begin(broker *self) {
@@ -252,17 +260,17 @@ static void begin(broker *self) {
 
 /* A connection was made, or not. */
 static void take(broker *self) {
-    natsConnection *connection = self->made->connection;
-    memcpy(self->why, self->made->why, sizeof self->why);
-    forget(self->made);
+    task *made = self->made;
+    memcpy(self->why, made->why, sizeof self->why);
     faz_aside_take(self->making);
     self->making = NULL;
     self->again_at = self->now + AGAIN;
-    if (connection == NULL)
+    if (made->connection == NULL) {
+        forget(made);
         return;
-    let_go(self);
-    faz_aside_leave(finish_aside(self->connection));
-    self->connection = connection;
+    }
+    faz_aside_leave(finish_aside(self->there));
+    self->there = made;
     self->is_wanted = false;
     for (int at = 0; at < HEARD; at++)
         subscribe(self, at);
@@ -270,7 +278,7 @@ static void take(broker *self) {
 
 /* A connection that has ended is followed by another one, not at once, nor at the same time at all machines. */
 static void look_at_end(broker *self) {
-    if (self->is_wanted || self->connection == NULL || !natsConnection_IsClosed(self->connection))
+    if (self->is_wanted || self->there == NULL || !natsConnection_IsClosed(self->there->connection))
         return;
     self->is_wanted = true;
     self->again_at = self->now + RECONNECT + randombytes_uniform(RECONNECT);
@@ -289,7 +297,7 @@ void faz_lobby_broker_turn(broker *self, uint32_t now) {
 }
 
 bool faz_lobby_broker_is_there(const broker *self) {
-    return self->connection != NULL && natsConnection_Status(self->connection) == NATS_CONN_STATUS_CONNECTED;
+    return self->there != NULL && natsConnection_Status(self->there->connection) == NATS_CONN_STATUS_CONNECTED;
 }
 
 const char *faz_lobby_broker_why(const broker *self) {
@@ -304,8 +312,8 @@ void faz_lobby_broker_renew(broker *self) {
 void faz_lobby_broker_hear(broker *self, int place, const char *subject) {
     if (place < 0 || place >= HEARD || strlen(subject) >= BROKER_SUBJECT)
         return;
-    natsSubscription_Destroy(self->heard[place]);
-    self->heard[place] = NULL;
+    if (self->there != NULL && self->there->heard[place] != NULL)
+        unsubscribe(self->there, place);
     strcpy(self->subject[place], subject);
     subscribe(self, place);
 }
@@ -313,8 +321,9 @@ void faz_lobby_broker_hear(broker *self, int place, const char *subject) {
 bool faz_lobby_broker_say(broker *self, const char *subject, const char *reply, const uint8_t *bytes, size_t length) {
     if (!faz_lobby_broker_is_there(self) || length >= BROKER_MESSAGE)
         return false;
-    natsStatus status = reply != NULL ? natsConnection_PublishRequest(self->connection, subject, reply, bytes, (int)length)
-                                      : natsConnection_Publish(self->connection, subject, bytes, (int)length);
+    natsConnection *connection = self->there->connection;
+    natsStatus status = reply != NULL ? natsConnection_PublishRequest(connection, subject, reply, bytes, (int)length)
+                                      : natsConnection_Publish(connection, subject, bytes, (int)length);
     return status == NATS_OK;
 }
 
@@ -332,9 +341,10 @@ static bool copy(broker_message *to, const natsMsg *from) {
 }
 
 bool faz_lobby_broker_next(broker *self, broker_message *message) {
-    for (int at = 0; at < HEARD; at++) {
+    for (int at = 0; self->there != NULL && at < HEARD; at++) {
         natsMsg *came = NULL;
-        natsStatus status = self->heard[at] != NULL ? natsSubscription_NextMsg(&came, self->heard[at], 0) : NATS_TIMEOUT;
+        natsSubscription *heard = self->there->heard[at];
+        natsStatus status = heard != NULL ? natsSubscription_NextMsg(&came, heard, 0) : NATS_TIMEOUT;
         bool is_one = status == NATS_OK && copy(message, came);
         natsMsg_Destroy(came);
         if (status == NATS_NO_RESPONDERS) {

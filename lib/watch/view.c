@@ -264,8 +264,8 @@ static void read_all(void *of) {
         else if (is_wanted)
             ask_rows(self);
     }
-    natsSubscription_Destroy(self->live);
     faz_broker_close(&self->broker);
+    natsSubscription_Destroy(self->live); /* (libnats' thread that reads may use it until then) */
 }
 
 /* The game's side. All of it is under the lock. */

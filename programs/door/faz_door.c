@@ -311,8 +311,8 @@ static int serve(void) {
     }
     fprintf(stderr, "faz-door: %s\n",
             status == NATS_CONNECTION_AUTH_FAILED ? "the broker doesn't let this door in" : natsStatus_GetText(status));
-    natsSubscription_Destroy(asked);
     natsConnection_Destroy(broker);
+    natsSubscription_Destroy(asked); /* (libnats' thread that reads may use it until then) */
     return 1;
 }
 

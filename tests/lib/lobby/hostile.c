@@ -115,11 +115,15 @@ static void close_all(void) {
 
 /* ---- the stranger */
 
+/* libnats' thread may use the old subscription until it has taken the answer to the flush. */
 static bool listen(bool does) {
-    natsSubscription_Destroy(self.all);
+    natsSubscription *before = self.all;
     self.all = NULL;
-    return (!does || natsConnection_SubscribeSync(&self.all, self.stranger, ">") == NATS_OK)
+    natsSubscription_Unsubscribe(before);
+    bool is_so = (!does || natsConnection_SubscribeSync(&self.all, self.stranger, ">") == NATS_OK)
         && natsConnection_FlushTimeout(self.stranger, 1000) == NATS_OK;
+    natsSubscription_Destroy(before);
+    return is_so;
 }
 
 /* All that the broker has taken by now, and what comes right after that, as far as there is room. */

@@ -128,7 +128,7 @@ static bool is_done(void) {
     if (!self.has_all)
         since = micros();
     self.has_all = true;
-    return is_asked_to_end || micros() - since > (uint64_t)(self.stay * 1000 + TAIL) * 1000;
+    return micros() - since > (uint64_t)((is_asked_to_end ? 0 : self.stay * 1000) + TAIL) * 1000;
 }
 
 static void turn(void) {
