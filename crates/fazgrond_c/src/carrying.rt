@@ -18,7 +18,8 @@ use roll_wire::DATAGRAM_LIMIT;
 
 /// Hears bytes for a session that is told their words at once.
 pub fn hear(relay: &mut Relay, peer: &mut Peer, live: &mut Live, bytes: &[u8], now: u32) -> i32
-    ensures { IsHeardBy bytes.now now peer.old peer.new relay.old relay.new live.old live.new result }
+    ensures { IsHeardBy bytes.now now peer.old peer.new relay.old relay.new live.old live.new
+        result }
 {
     code_of_receipt(relay.receive(peer, &mut live.session, bytes, now))
 }
@@ -92,7 +93,8 @@ pub fn next(network: &mut Network) -> Option<(u8, ArrayVec<u8, DATAGRAM_LIMIT>)>
 
 /// What says to a machine that this one leaves, and why.
 pub fn bye(network: &mut Network, machine: u8, why: u8) -> Option<ArrayVec<u8, DATAGRAM_LIMIT>>
-    ensures said { SaysByeBy machine why network.old network.new (option_map (λ bytes. bytes.items) result) }
+    ensures said { SaysByeBy machine why network.old network.new
+        (option_map (λ bytes. bytes.items) result) }
     ensures none { is_none result ≡ (is_lost network.old.peer machine
         || not (is_playing (contact_at network.old.peer machine).stage)) }
 {

@@ -62,8 +62,8 @@ pub fn send_before(
     out: &mut [u8],
     size: &mut usize,
 ) -> i32
-    ensures { Fills (IsSentBefore machine now) network.old network.new out.old out.new size.old size.new
-        result }
+    ensures { Fills (IsSentBefore machine now) network.old network.new out.old out.new size.old
+        size.new result }
 {
     if out.len() < DATAGRAM_LIMIT {
         return TOO_SHORT;

@@ -29,7 +29,8 @@ use roll_seam::{Epochs, relay_for};
 use roll_session::Networked;
 use std::alloc::Global;
 
-/// Opens a peer whose match goes on in epochs beside a session, which is only read.
+/// Opens a peer whose match goes on in epochs beside a session, which is only read. Machines that own no player in the
+/// epoch are gone from the start. 11 also if the session hasn't the epoch's threshold and its own players' delays.
 #[unsafe(no_mangle)]
 pub extern "C" fn fazgrond_peer_open_lasting(
     alloc: Global,
@@ -38,8 +39,8 @@ pub extern "C" fn fazgrond_peer_open_lasting(
     given: &MatchIn,
     epoch: &EpochIn,
 ) -> i32
-    ensures opened { IsOpenedLasting given.now epoch.now session.old.hold.value handle.old.hold.value
-        handle.new.hold.value result }
+    ensures opened { IsOpenedLasting given.now epoch.now session.old.hold.value
+        handle.old.hold.value handle.new.hold.value result }
     ensures session { session.new.hold.value ≡ session.old.hold.value }
 {
     let Some(lent) = session.take(alloc) else {
@@ -100,7 +101,8 @@ fn chain_beside(live: &Live, base: MatchSettings, terms: Terms, comers: u64) -> 
 
 /// The number of why its network isn't opened.
 fn code_beside(live: &Live, base: MatchSettings, terms: Terms, comers: u64, why: OpenRefusal) -> i32
-    ensures { result ≡ pos (code_of_opening (opening_of (chain_in base terms comers live.now.session.seen)) why) }
+    ensures { result ≡ pos
+        (code_of_opening (opening_of (chain_in base terms comers live.now.session.seen)) why) }
 {
     let chain = chain_beside(live, base, terms, comers);
     code_of_opening(&chain.settings(), why)
@@ -115,16 +117,20 @@ fn open_epochs(
     comers: u64,
 ) -> Result<(Peer, Epochs<Ended>), OpenRefusal>
     ensures opened { IfOk result
-        (λ it. IsOpenedWithout (chain_in base terms comers live.now.session.seen) live.now.session.seen it.0) }
-    ensures epochs { IfOk result
-        (λ it. it.1 ≡ record { chain = chain_in base terms comers live.now.session.seen; past = None }) }
+        (λ it. IsOpenedWithout (chain_in base terms comers live.now.session.seen)
+        live.now.session.seen it.0) }
+    ensures epochs { IfOk result (λ it. it.1 ≡ record {
+      chain = chain_in base terms comers live.now.session.seen;
+      past = None;
+    }) }
     ensures accepted { OnOk result (join_refusal live.now.session.seen
         (seat_of (opening_of (chain_in base terms comers live.now.session.seen))) ≡ None) }
     ensures drawn { OnOk result (base.draw ≢ 0) }
     ensures numbered { OnOk result
         (has_numbers (opening_of (chain_in base terms comers live.now.session.seen)) ≡ true) }
     ensures refused { IfErr result
-        (IsWhyNot live.now.session.seen (opening_of (chain_in base terms comers live.now.session.seen))) }
+        (IsWhyNot live.now.session.seen
+        (opening_of (chain_in base terms comers live.now.session.seen))) }
 {
     let chain = chain_beside(live, base, terms, comers);
     match Peer::open(alloc, &live.session, chain.settings()) {
@@ -220,7 +226,7 @@ pub extern "C" fn fazgrond_peer_has_stayed(
     }
 }
 
-/// Puts a mark on the next word of an own player.
+/// Puts a mark on the next word of an own player, unless it would be void. All words that wait are handed over before.
 #[unsafe(no_mangle)]
 pub extern "C" fn fazgrond_peer_mark(
     alloc: Global,
@@ -229,8 +235,8 @@ pub extern "C" fn fazgrond_peer_mark(
     player: u8,
     mark: &MarkIn,
 ) -> i32
-    ensures { MakesBeside network_in (IsMarkedIn player mark.now) handle.old.hold.value handle.new.hold.value
-        session.old.hold.value session.new.hold.value result }
+    ensures { MakesBeside network_in (IsMarkedIn player mark.now) handle.old.hold.value
+        handle.new.hold.value session.old.hold.value session.new.hold.value result }
 {
     let Some(mut held) = handle.take(alloc) else {
         return CLOSED;
@@ -263,7 +269,9 @@ pub extern "C" fn fazgrond_ticket(comers: u64, name: u32) -> u64
     ticket_for(comers, name)
 }
 
-/// Goes on in the next epoch, if this one is over.
+/// Goes on in the next epoch, if this one is over; 203 if it isn't, once marks are judged. 202, and nothing is changed,
+/// if the last requests of the epoch before are still to be taken. All words that wait are handed over before. The
+/// ended session's last requests go ahead of the next one's, and jobs get other numbers than before.
 #[unsafe(no_mangle)]
 pub extern "C" fn fazgrond_peer_go_on(
     alloc: Global,
@@ -307,8 +315,8 @@ pub extern "C" fn fazgrond_peer_send_before(
     out: &mut [u8],
     size: &mut usize,
 ) -> i32
-    ensures { FillsBy network_in (IsSentBefore machine now) handle.old.hold.value handle.new.hold.value
-        out.old out.new size.old size.new result }
+    ensures { FillsBy network_in (IsSentBefore machine now) handle.old.hold.value
+        handle.new.hold.value out.old out.new size.old size.new result }
 {
     let Some(mut held) = handle.take(alloc) else {
         return CLOSED;

@@ -36,8 +36,8 @@ pub extern "C" fn fazgrond_giver_open(
 /// What the state is called.
 #[unsafe(no_mangle)]
 pub extern "C" fn fazgrond_giver_name(alloc: Global, handle: &mut Handle, name: &mut NameOut) -> i32
-    ensures { Reads giver_in (λ giver. name_out giver.name) handle.old.hold.value handle.new.hold.value
-        name.old name.new result }
+    ensures { Reads giver_in (λ giver. name_out giver.name) handle.old.hold.value
+        handle.new.hold.value name.old name.new result }
 {
     let Some(held) = handle.take(alloc) else {
         return CLOSED;

@@ -36,7 +36,8 @@ pub extern "C" fn fazgrond_guess(
     code
 }
 
-/// Takes in the branch of a job that was carried out.
+/// Takes in the branch of a job that was carried out. 202, and nothing is changed, if requests are still to be taken;
+/// else the job is gone, whatever the answer.
 #[unsafe(no_mangle)]
 pub extern "C" fn fazgrond_graft(
     alloc: Global,
@@ -62,7 +63,8 @@ pub extern "C" fn fazgrond_graft(
 /// Gives a job up.
 #[unsafe(no_mangle)]
 pub extern "C" fn fazgrond_forget(alloc: Global, handle: &mut Handle, job: u32) -> i32
-    ensures { Makes session_in (IsForgotten job) handle.old.hold.value handle.new.hold.value result }
+    ensures { Makes session_in (IsForgotten job) handle.old.hold.value handle.new.hold.value
+        result }
 {
     let Some(mut held) = handle.take(alloc) else {
         return CLOSED;

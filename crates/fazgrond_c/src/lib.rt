@@ -1,4 +1,16 @@
 //! Rollback sessions for games in other languages: the session says what the game is to do.
+//!
+//! `include/fazgrond.h` says what each call is for, what the structs have and the numbers mean, and what a call asks of
+//! its caller. For any arguments that keep that, each export is safe and returns. A session opens with the headline of
+//! `roll_requests` (`Leads`), and each call keeps it (`KeepsLeading`). So for every game: once C has carried out all
+//! that `fazgrond_take_requests` has handed out since the session was opened, in order, and nothing is left to take,
+//! the current state there is the serial run of the rows that the session shows.
+//!
+//! A handle has one thing open (a session, a peer, an end of a viewer's line, a player's habits, who gives or takes a
+//! state) or nothing. To a call for another kind of thing it is closed. On a closed handle, also one that is lent, a
+//! call answers 201, or a count of 0, and nothing is changed or written. A call that opens something puts it in the
+//! place of what was open, or changes nothing. A call that writes a datagram needs room for 1,200 bytes: with less it
+//! answers 204, and nothing is changed or counted.
 #![tactic(auto)]
 
 ghost use Rattle.std.specs.Prelude.{◌≡◌, ◌++◌, drop, length, take, None};

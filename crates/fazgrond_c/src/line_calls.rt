@@ -54,8 +54,8 @@ pub fn send_before(
     out: &mut [u8],
     size: &mut usize,
 ) -> i32
-    ensures { Fills (IsTellingBefore network.now now) line.old line.new out.old out.new size.old size.new
-        result }
+    ensures { Fills (IsTellingBefore network.now now) line.old line.new out.old out.new size.old
+        size.new result }
 {
     if out.len() < DATAGRAM_LIMIT {
         return TOO_SHORT;

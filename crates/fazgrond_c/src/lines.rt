@@ -40,8 +40,8 @@ pub extern "C" fn fazgrond_line_receive(
     bytes: &[u8],
     now: u32,
 ) -> i32
-    ensures { Makes line_in (HostHearsBytes bytes.now now) handle.old.hold.value handle.new.hold.value
-        result }
+    ensures { Makes line_in (HostHearsBytes bytes.now now) handle.old.hold.value
+        handle.new.hold.value result }
 {
     let Some(mut held) = handle.take(alloc) else {
         return CLOSED;
@@ -89,8 +89,9 @@ pub extern "C" fn fazgrond_line_send(
     out: &mut [u8],
     size: &mut usize,
 ) -> i32
-    ensures told { FillsFor session_in line_in (λ live. IsTelling live.session.seen.core now) session.old.hold.value
-        handle.old.hold.value handle.new.hold.value out.old out.new size.old size.new result }
+    ensures told { FillsFor session_in line_in (λ live. IsTelling live.session.seen.core now)
+        session.old.hold.value handle.old.hold.value handle.new.hold.value out.old out.new size.old
+        size.new result }
     ensures session { session.new.hold.value ≡ session.old.hold.value }
 {
     let Some(lent) = session.take(alloc) else {
@@ -129,7 +130,7 @@ fn tell_before(
     code
 }
 
-/// What to send to the viewer: the settled rows that it lacks of the epoch before.
+/// What to send to the viewer: the settled rows that it lacks of the epoch before. 203 also if that isn't kept.
 #[unsafe(no_mangle)]
 pub extern "C" fn fazgrond_line_send_before(
     alloc: Global,
@@ -139,8 +140,9 @@ pub extern "C" fn fazgrond_line_send_before(
     out: &mut [u8],
     size: &mut usize,
 ) -> i32
-    ensures told { FillsFor network_in line_in (λ network. IsTellingBefore network now) peer.old.hold.value
-        handle.old.hold.value handle.new.hold.value out.old out.new size.old size.new result }
+    ensures told { FillsFor network_in line_in (λ network. IsTellingBefore network now)
+        peer.old.hold.value handle.old.hold.value handle.new.hold.value out.old out.new size.old
+        size.new result }
     ensures peer { peer.new.hold.value ≡ peer.old.hold.value }
 {
     let Some(lent) = peer.take(alloc) else {

@@ -75,8 +75,8 @@ impl Live {
     pub fn claim(&self, alloc: Global) -> Result<Vec<u8>, Refusal>
         ensures text { IfOk result (λ text. IsSomeAnd (last_claim self.now.session.seen)
             (λ claim. text.items ≡ text_of (claim_lines claim))) }
-        ensures refused { IfErr result (λ why. why
-            ≡ (if is_none (last_claim self.now.session.seen) then Refusal.NoPlan else Refusal.NoMemory)) }
+        ensures refused { IfErr result (λ why. why ≡ (if is_none (last_claim self.now.session.seen)
+            then Refusal.NoPlan else Refusal.NoMemory)) }
     {
         let claim = self.session.claim(alloc)?;
         let text = write(alloc, &claim)?;

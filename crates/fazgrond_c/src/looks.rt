@@ -65,7 +65,8 @@ pub extern "C" fn fazgrond_settled_row(
     frame: u32,
     row: &mut RowOut,
 ) -> i32
-    ensures { ReadsSome session_in (λ live. option_map row_out (settled_row live.session.seen.core frame))
+    ensures { ReadsSome session_in
+        (λ live. option_map row_out (settled_row live.session.seen.core frame))
         handle.old.hold.value handle.new.hold.value row.old row.new result }
 {
     let Some(held) = handle.take(alloc) else {
@@ -119,8 +120,8 @@ pub extern "C" fn fazgrond_confirmed_word(
     frame: u32,
     word: &mut u32,
 ) -> i32
-    ensures { ReadsSome session_in (λ live. confirmed_word live.session.seen.core.players player frame)
-        handle.old.hold.value handle.new.hold.value word.old word.new result }
+    ensures { ReadsSome session_in (λ live. confirmed_word live.session.seen.core.players player
+        frame) handle.old.hold.value handle.new.hold.value word.old word.new result }
 {
     let Some(held) = handle.take(alloc) else {
         return CLOSED;
@@ -189,8 +190,9 @@ pub extern "C" fn fazgrond_log_entry(
     place: usize,
     entry: &mut EntryOut,
 ) -> i32
-    ensures { ReadsSome session_in (λ live. option_map entry_out (slice_get live.session.seen.log place))
-        handle.old.hold.value handle.new.hold.value entry.old entry.new result }
+    ensures { ReadsSome session_in
+        (λ live. option_map entry_out (slice_get live.session.seen.log place)) handle.old.hold.value
+        handle.new.hold.value entry.old entry.new result }
 {
     let Some(held) = handle.take(alloc) else {
         return CLOSED;
@@ -218,8 +220,8 @@ pub extern "C" fn fazgrond_settled_slot(
     frame: &mut u32,
     slot: &mut u32,
 ) -> i32
-    ensures { IsSettledAt handle.old.hold.value handle.new.hold.value frame.old frame.new slot.old slot.new
-        result }
+    ensures { IsSettledAt handle.old.hold.value handle.new.hold.value frame.old frame.new slot.old
+        slot.new result }
 {
     let Some(held) = handle.take(alloc) else {
         return CLOSED;
@@ -234,11 +236,12 @@ pub extern "C" fn fazgrond_settled_slot(
     0
 }
 
-/// Whether a call was accepted since the last roll, or none was so far. The state shown may not be that of the inputs then.
+/// Whether a call other than a graft was accepted since the last roll, or there was none so far. The state shown may
+/// not be that of the inputs then.
 #[unsafe(no_mangle)]
 pub extern "C" fn fazgrond_has_news(alloc: Global, handle: &mut Handle, flag: &mut u32) -> i32
-    ensures { Reads session_in (λ live. if ends_in_roll live.session.seen.log then 0 else 1) handle.old.hold.value
-        handle.new.hold.value flag.old flag.new result }
+    ensures { Reads session_in (λ live. if ends_in_roll live.session.seen.log then 0 else 1)
+        handle.old.hold.value handle.new.hold.value flag.old flag.new result }
 {
     let Some(held) = handle.take(alloc) else {
         return CLOSED;
@@ -310,7 +313,8 @@ fn claim(alloc: Global, live: &Live, out: &mut [u8], size: &mut usize) -> i32
 /// Writes bytes to the front of a buffer, if it has room for them.
 pub fn copied(out: &mut [u8], bytes: &[u8]) -> i32
     ensures copied { AreCopied bytes.now out.old out.new result }
-    ensures written { (had : ℕ) → IsWritten bytes.now out.old out.new had (length bytes.now) result }
+    ensures written { (had : ℕ) → IsWritten bytes.now out.old out.new had (length bytes.now)
+        result }
 {
     if bytes.len() > out.len() {
         return TOO_SHORT;

@@ -59,7 +59,8 @@ fn hear(peer: &mut Peer, live: &mut Live, bytes: &[u8], now: u32) -> i32
 
 /// Hears bytes, and holds back their words.
 fn hear_ahead(held: &mut Held, peer: &mut Peer, live: &mut Live, bytes: &[u8], now: u32) -> i32
-    ensures { IsHeardAhead bytes.now now peer.old peer.new held.old held.new live.old live.new result }
+    ensures { IsHeardAhead bytes.now now peer.old peer.new held.old held.new live.old live.new
+        result }
 {
     match held.receive(peer, &mut live.session, bytes, now) {
         Ok(said) => code_of_receipt(said),
@@ -169,8 +170,8 @@ pub fn send(
     out: &mut [u8],
     size: &mut usize,
 ) -> i32
-    ensures { Fills (IsSentTo machine now) (network.old, live.old) (network.new, live.new) out.old out.new
-        size.old size.new result }
+    ensures { Fills (IsSentTo machine now) (network.old, live.old) (network.new, live.new) out.old
+        out.new size.old size.new result }
 {
     if out.len() < DATAGRAM_LIMIT {
         return TOO_SHORT;
@@ -202,8 +203,8 @@ fn send_ahead(
     size: &mut usize,
 ) -> i32
     requires { DATAGRAM_LIMIT ≤ length out.old }
-    ensures sent { IsSentAhead machine now peer.old peer.new held.old live.old live.new out.old out.new
-        size.old size.new result }
+    ensures sent { IsSentAhead machine now peer.old peer.new held.old live.old live.new out.old
+        out.new size.old size.new result }
     ensures same { held.new ≡ held.old }
 {
     match held.send(peer, &mut live.session, machine, now) {
@@ -219,7 +220,8 @@ pub fn write_sent(
     said: Result<Option<ArrayVec<u8, DATAGRAM_LIMIT>>, OtherSession>,
 ) -> i32
     requires { DATAGRAM_LIMIT ≤ length out.old }
-    ensures { AreSent (bytes_of (λ bytes. bytes.items) said) out.old out.new size.old size.new result }
+    ensures { AreSent (bytes_of (λ bytes. bytes.items) said) out.old out.new size.old size.new
+        result }
 {
     match said {
         Ok(Some(bytes)) => {
@@ -250,8 +252,8 @@ pub fn send_more(network: &mut Network, machine: &mut u8, out: &mut [u8], size: 
 
 /// Writes what says to a machine that this one leaves, and why.
 pub fn bye(network: &mut Network, machine: u8, why: u8, out: &mut [u8], size: &mut usize) -> i32
-    ensures { Fills (IsFarewell machine why) network.old network.new out.old out.new size.old size.new
-        result }
+    ensures { Fills (IsFarewell machine why) network.old network.new out.old out.new size.old
+        size.new result }
 {
     if out.len() < DATAGRAM_LIMIT {
         return TOO_SHORT;

@@ -104,7 +104,8 @@ fn open_beside(
     )
 }
 
-/// Hears a datagram that came: words that it holds become words of the session.
+/// Hears a datagram that came: words that it holds become words of the session, or wait if the peer holds them back. If
+/// it is ignored, the answer says why, and the session stays as it is.
 #[unsafe(no_mangle)]
 pub extern "C" fn fazgrond_peer_receive(
     alloc: Global,
@@ -113,8 +114,8 @@ pub extern "C" fn fazgrond_peer_receive(
     bytes: &[u8],
     now: u32,
 ) -> i32
-    ensures { MakesBeside network_in (IsReceivedIn bytes.now now) handle.old.hold.value handle.new.hold.value
-        session.old.hold.value session.new.hold.value result }
+    ensures { MakesBeside network_in (IsReceivedIn bytes.now now) handle.old.hold.value
+        handle.new.hold.value session.old.hold.value session.new.hold.value result }
 {
     let Some(mut held) = handle.take(alloc) else {
         return CLOSED;
@@ -139,8 +140,9 @@ pub extern "C" fn fazgrond_peer_receive(
     code
 }
 
-/// What a turn does before it plays: machines that are silent or hold up the match are gone, players leave the session, the match
-/// begins.
+/// What a turn does before it plays: machines that are silent or hold up the match are gone, players leave the session,
+/// the match begins. 313 if the session isn't this match's; else an answer that isn't 0 says why a player who is to
+/// leave is still there.
 #[unsafe(no_mangle)]
 pub extern "C" fn fazgrond_peer_poll(
     alloc: Global,
@@ -196,7 +198,8 @@ pub extern "C" fn fazgrond_peer_is_running(
     0
 }
 
-/// What to send to a machine: words of the session that it lacks.
+/// What to send to a machine: words of the session that it lacks. 203 if nothing goes to it straight at once; 313 if
+/// the session isn't this match's.
 #[unsafe(no_mangle)]
 pub extern "C" fn fazgrond_peer_send(
     alloc: Global,
@@ -207,8 +210,9 @@ pub extern "C" fn fazgrond_peer_send(
     out: &mut [u8],
     size: &mut usize,
 ) -> i32
-    ensures { FillsBeside network_in (IsSentTo machine now) handle.old.hold.value handle.new.hold.value
-        session.old.hold.value session.new.hold.value out.old out.new size.old size.new result }
+    ensures { FillsBeside network_in (IsSentTo machine now) handle.old.hold.value
+        handle.new.hold.value session.old.hold.value session.new.hold.value out.old out.new size.old
+        size.new result }
 {
     let Some(mut held) = handle.take(alloc) else {
         return CLOSED;
@@ -266,8 +270,8 @@ pub extern "C" fn fazgrond_peer_note_settled(
     session: &mut Handle,
     digest: u64,
 ) -> i32
-    ensures noted { MakesFor network_in (λ live. IsNotedFor digest live.session.seen) session.old.hold.value
-        handle.old.hold.value handle.new.hold.value result }
+    ensures noted { MakesFor network_in (λ live. IsNotedFor digest live.session.seen)
+        session.old.hold.value handle.old.hold.value handle.new.hold.value result }
     ensures session { session.new.hold.value ≡ session.old.hold.value }
 {
     let Some(lent) = session.take(alloc) else {
@@ -309,8 +313,8 @@ pub extern "C" fn fazgrond_peer_bye(
     out: &mut [u8],
     size: &mut usize,
 ) -> i32
-    ensures { FillsBy network_in (IsFarewell machine why) handle.old.hold.value handle.new.hold.value
-        out.old out.new size.old size.new result }
+    ensures { FillsBy network_in (IsFarewell machine why) handle.old.hold.value
+        handle.new.hold.value out.old out.new size.old size.new result }
 {
     let Some(mut held) = handle.take(alloc) else {
         return CLOSED;
@@ -327,7 +331,8 @@ pub extern "C" fn fazgrond_peer_bye(
 /// Regards a machine as gone.
 #[unsafe(no_mangle)]
 pub extern "C" fn fazgrond_peer_disconnect(alloc: Global, handle: &mut Handle, machine: u8) -> i32
-    ensures { Makes network_in (IsPutOutBy machine) handle.old.hold.value handle.new.hold.value result }
+    ensures { Makes network_in (IsPutOutBy machine) handle.old.hold.value handle.new.hold.value
+        result }
 {
     let Some(mut held) = handle.take(alloc) else {
         return CLOSED;
@@ -348,8 +353,8 @@ pub extern "C" fn fazgrond_peer_event(
     handle: &mut Handle,
     event: &mut EventOut,
 ) -> i32
-    ensures { Writes network_in IsToldBy handle.old.hold.value handle.new.hold.value event.old event.new
-        result }
+    ensures { Writes network_in IsToldBy handle.old.hold.value handle.new.hold.value event.old
+        event.new result }
 {
     let Some(mut held) = handle.take(alloc) else {
         return CLOSED;

@@ -93,7 +93,8 @@ pub extern "C" fn fazgrond_disconnect_player(alloc: Global, handle: &mut Handle,
     code_of(call(alloc, handle, Call::Disconnect { player }))
 }
 
-/// The row of this frame, after a rollback where one is due.
+/// The row of this frame, after a rollback where one is due. 202, and nothing is changed, if requests are still to be
+/// taken; 107 also if it runs more frames than slots are free.
 #[unsafe(no_mangle)]
 pub extern "C" fn fazgrond_synchronize_input(
     alloc: Global,
@@ -112,7 +113,7 @@ pub extern "C" fn fazgrond_synchronize_input(
     }
 }
 
-/// The next frame.
+/// The next frame, after a rollback where one is due. 202 and 107 as of `fazgrond_synchronize_input`.
 #[unsafe(no_mangle)]
 pub extern "C" fn fazgrond_advance_frame(
     alloc: Global,
@@ -133,6 +134,7 @@ pub extern "C" fn fazgrond_advance_frame(
 }
 
 /// The requests of the last call, in their order: fills the buffer, and says how many they are. 0 where none is left.
+/// The last ones of the epoch before come first, by themselves.
 #[unsafe(no_mangle)]
 pub extern "C" fn fazgrond_take_requests(
     alloc: Global,
@@ -156,7 +158,8 @@ pub extern "C" fn fazgrond_take_requests(
 /// From now on no state is saved in a slot from this one on.
 #[unsafe(no_mangle)]
 pub extern "C" fn fazgrond_limit_slots(alloc: Global, handle: &mut Handle, slots: u32) -> i32
-    ensures { Makes session_in (IsLimited slots) handle.old.hold.value handle.new.hold.value result }
+    ensures { Makes session_in (IsLimited slots) handle.old.hold.value handle.new.hold.value
+        result }
 {
     let Some(mut held) = handle.take(alloc) else {
         return CLOSED;
@@ -170,10 +173,12 @@ pub extern "C" fn fazgrond_limit_slots(alloc: Global, handle: &mut Handle, slots
     code
 }
 
-/// Makes room for so many more events.
+/// Makes room for so many more events. If it can't, nothing is changed: the log would pass its limit, else there is no
+/// memory, but never for what was reserved before.
 #[unsafe(no_mangle)]
 pub extern "C" fn fazgrond_reserve_log(alloc: Global, handle: &mut Handle, events: u32) -> i32
-    ensures { Makes session_in (IsReserved events) handle.old.hold.value handle.new.hold.value result }
+    ensures { Makes session_in (IsReserved events) handle.old.hold.value handle.new.hold.value
+        result }
 {
     let Some(mut held) = handle.take(alloc) else {
         return CLOSED;

@@ -60,8 +60,8 @@ pub fn send(
     out: &mut [u8],
     size: &mut usize,
 ) -> i32
-    ensures { Fills (IsAsking number sender most) taker.old taker.new out.old out.new size.old size.new
-        result }
+    ensures { Fills (IsAsking number sender most) taker.old taker.new out.old out.new size.old
+        size.new result }
 {
     if out.len() < DATAGRAM_LIMIT {
         return TOO_SHORT;

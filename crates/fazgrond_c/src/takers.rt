@@ -35,8 +35,8 @@ pub extern "C" fn fazgrond_taker_open(
 /// What the state is called.
 #[unsafe(no_mangle)]
 pub extern "C" fn fazgrond_taker_name(alloc: Global, handle: &mut Handle, name: &mut NameOut) -> i32
-    ensures { Reads taker_in (λ taker. name_out taker.name) handle.old.hold.value handle.new.hold.value
-        name.old name.new result }
+    ensures { Reads taker_in (λ taker. name_out taker.name) handle.old.hold.value
+        handle.new.hold.value name.old name.new result }
 {
     let Some(held) = handle.take(alloc) else {
         return CLOSED;
@@ -57,8 +57,8 @@ pub extern "C" fn fazgrond_taker_look(
     handle: &mut Handle,
     state: &mut TakerOut,
 ) -> i32
-    ensures { Reads taker_in taker_out handle.old.hold.value handle.new.hold.value state.old state.new
-        result }
+    ensures { Reads taker_in taker_out handle.old.hold.value handle.new.hold.value state.old
+        state.new result }
 {
     let Some(held) = handle.take(alloc) else {
         return CLOSED;
@@ -80,8 +80,8 @@ pub extern "C" fn fazgrond_taker_takes_of(
     machine: u8,
     flag: &mut u32,
 ) -> i32
-    ensures { Writes taker_in (IsTakenOf machine) handle.old.hold.value handle.new.hold.value flag.old
-        flag.new result }
+    ensures { Writes taker_in (IsTakenOf machine) handle.old.hold.value handle.new.hold.value
+        flag.old flag.new result }
 {
     let Some(held) = handle.take(alloc) else {
         return CLOSED;
@@ -147,8 +147,8 @@ pub extern "C" fn fazgrond_taker_receive(
     bytes: &[u8],
     heard: &mut HeardOut,
 ) -> i32
-    ensures { Writes taker_in (IsReceived number bytes.now) handle.old.hold.value handle.new.hold.value
-        heard.old heard.new result }
+    ensures { Writes taker_in (IsReceived number bytes.now) handle.old.hold.value
+        handle.new.hold.value heard.old heard.new result }
 {
     let Some(mut held) = handle.take(alloc) else {
         return CLOSED;

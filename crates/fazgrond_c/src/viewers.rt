@@ -18,8 +18,8 @@ use std::alloc::Global;
 /// Opens a viewer.
 #[unsafe(no_mangle)]
 pub extern "C" fn fazgrond_viewer_open(alloc: Global, handle: &mut Handle, given: &LineIn) -> i32
-    ensures opened { Opens viewer_in (IsOpened given.now) handle.old.hold.value handle.new.hold.value
-        result }
+    ensures opened { Opens viewer_in (IsOpened given.now) handle.old.hold.value
+        handle.new.hold.value result }
     ensures why { result ≢ pos 0 → IsWhyClosed given.now result }
 {
     let Some(settings) = given.settings() else {
@@ -106,7 +106,8 @@ pub extern "C" fn fazgrond_viewer_bye(
 /// The next row.
 #[unsafe(no_mangle)]
 pub extern "C" fn fazgrond_viewer_row(alloc: Global, handle: &mut Handle, row: &mut RowOut) -> i32
-    ensures { Writes viewer_in IsSeen handle.old.hold.value handle.new.hold.value row.old row.new result }
+    ensures { Writes viewer_in IsSeen handle.old.hold.value handle.new.hold.value row.old row.new
+        result }
 {
     let Some(mut held) = handle.take(alloc) else {
         return CLOSED;

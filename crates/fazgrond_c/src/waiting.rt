@@ -1,4 +1,7 @@
-//! Words that a peer holds back from its session, for games in other languages.
+//! Words that a peer holds back from its session, for games in other languages. A peer does if and only if its match
+//! says for how many turns, 1 to 8. To `receive`, `poll` and `send` of such a peer the session is one that has heard
+//! all that waits. They, and the calls that hand words over, answer 313 if these words aren't the session's next ones,
+//! or why there is no room for them: then nothing is changed.
 ghost use Rattle.std.specs.Prelude.{◌≡◌};
 ghost use Rattle.fazgrond_c.specs.Handles.{network_in, MakesBeside, ReadsBeside, WritesBeside};
 ghost use Rattle.fazgrond_c.specs.Waiting.{AreHandedDue, AreHandedFirst, AreListedBy, IsForetold, IsPressed, IsRerun};
@@ -143,8 +146,8 @@ pub extern "C" fn fazgrond_peer_hand_over(
     session: &mut Handle,
     count: u32,
 ) -> i32
-    ensures { MakesBeside network_in (AreHandedFirst count) handle.old.hold.value handle.new.hold.value
-        session.old.hold.value session.new.hold.value result }
+    ensures { MakesBeside network_in (AreHandedFirst count) handle.old.hold.value
+        handle.new.hold.value session.old.hold.value session.new.hold.value result }
 {
     let Some(mut held) = handle.take(alloc) else {
         return CLOSED;

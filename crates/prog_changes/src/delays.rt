@@ -112,7 +112,8 @@ pub fn delays_fault(delays: &Delays, machines: u8, frames: u32) -> Option<Change
 
 /// The place of the first that isn't.
 fn faulty_place(delays: &Delays, machines: u8, frames: u32) -> Option<usize>
-    ensures { result ≡ find (is_faulty_in delays.now machines frames) (range_with_len 0 CHANGE_LIMIT) }
+    ensures { result ≡ find (is_faulty_in delays.now machines frames)
+        (range_with_len 0 CHANGE_LIMIT) }
 {
     (0..CHANGE_LIMIT).find(|place| fault_in(delays, machines, frames, *place).is_some())
 }
@@ -154,7 +155,11 @@ fn read_delay(text: &str) -> Option<DelayAt>
 
 /// A machine's delay, if both numbers are small enough.
 fn delay_of(machine: u32, delay: u32, frame: u32) -> Option<DelayAt>
-    ensures { IfSome result (λ named. named ≡ record { machine = machine; delay = delay; frame = frame }) }
+    ensures { IfSome result (λ named. named ≡ record {
+      machine = machine;
+      delay = delay;
+      frame = frame;
+    }) }
 {
     let (Ok(machine), Ok(delay)) = (u8::try_from(machine), u8::try_from(delay)) else {
         return None;
@@ -173,7 +178,8 @@ fn delay_of(machine: u32, delay: u32, frame: u32) -> Option<DelayAt>
 /// `ManyDelays` if there are more than 8, `UnreadableDelay` if a text isn't one.
 pub fn read_delays(texts: &[&str]) -> Result<Delays, ChangeFault>
     ensures named { IfOk result (NamesDelays (map (λ text. text.now) texts.now)) }
-    ensures many { IfErr result (λ why. why ≡ ChangeFault.ManyDelays → CHANGE_LIMIT < length texts.now) }
+    ensures many { IfErr result (λ why. why ≡ ChangeFault.ManyDelays
+        → CHANGE_LIMIT < length texts.now) }
     ensures others { IfErr result (λ why. length texts.now ≤ CHANGE_LIMIT
         → why ≡ ChangeFault.UnreadableDelay) }
 {

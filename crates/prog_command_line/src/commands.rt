@@ -127,7 +127,8 @@ fn with_command<'a>(
     program: Command<'a>,
     made: Result<Command<'a>, AllocError>,
 ) -> Result<Command<'a>, AllocError>
-    ensures { IfOk result (λ more. IsOkAnd made.entry (λ command. (fields_of command).has_globals ≡ false
+    ensures { IfOk result
+        (λ more. IsOkAnd made.entry (λ command. (fields_of command).has_globals ≡ false
         → app_of more ≡ with_subcommand (app_of program.entry) (app_of command).top)) }
 {
     let command = made?;
@@ -253,8 +254,10 @@ fn certify_command<'a>(alloc: Global) -> Result<Command<'a>, AllocError>
 
 /// A command with the options of a picture besides.
 fn with_picture<'a>(alloc: Global, command: Command<'a>) -> Result<Command<'a>, AllocError>
-    ensures app { IfOk result (λ more. app_of more ≡ with_rules (app_of command.entry) picture_rules) }
-    ensures local { IfOk result (λ more. (fields_of more).has_globals ≡ (fields_of command.entry).has_globals) }
+    ensures app { IfOk result (λ more. app_of more ≡ with_rules (app_of command.entry)
+        picture_rules) }
+    ensures local { IfOk result (λ more. (fields_of more).has_globals ≡
+        (fields_of command.entry).has_globals) }
 {
     let arguments = [
         Argument::Picture,
@@ -271,8 +274,10 @@ fn with_arguments<'a>(
     command: Command<'a>,
     arguments: &[Argument<'a>],
 ) -> Result<Command<'a>, AllocError>
-    ensures app { IfOk result (λ more. app_of more ≡ with_rules (app_of command.entry) (map rule_for arguments.now)) }
-    ensures local { IfOk result (λ more. (fields_of more).has_globals ≡ (fields_of command.entry).has_globals) }
+    ensures app { IfOk result (λ more. app_of more ≡ with_rules (app_of command.entry)
+        (map rule_for arguments.now)) }
+    ensures local { IfOk result (λ more. (fields_of more).has_globals ≡
+        (fields_of command.entry).has_globals) }
 {
     let mut command = command;
     for argument in arguments {

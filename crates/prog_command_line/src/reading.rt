@@ -22,17 +22,22 @@ use clap::{ArgMatches, Error};
 use std::alloc::{AllocError, Global};
 
 /// Reads the words, of which the first is the program's name. The error is a fault of usage, or help that was asked
-/// for: `script` is what it tells of scripts.
+/// for: `script` is what it tells of scripts. For words that the commands take, the only error is want of memory. How a
+/// fault and help are worded is tested (`tests/runs/program.t`).
 pub fn read<'a>(
     alloc: Global,
     words: &'a [String],
     script: &'a str,
 ) -> Result<CommandLine<'a>, Error>
-    ensures request { IfOk result (λ line. asked_of line.request ≡ asked_by (map string_bytes words.now)) }
-    ensures picture { IfOk result (λ line. picture_of line.picture ≡ picture_by (map string_bytes words.now)) }
-    ensures options { IfOk result (λ line. HasOptions (rows_by (map string_bytes words.now)) line.request) }
+    ensures request { IfOk result (λ line. asked_of line.request ≡ asked_by
+        (map string_bytes words.now)) }
+    ensures picture { IfOk result (λ line. picture_of line.picture ≡ picture_by
+        (map string_bytes words.now)) }
+    ensures options { IfOk result (λ line. HasOptions (rows_by (map string_bytes words.now))
+        line.request) }
     ensures workers { IfOk result (λ line. HasWorkers line.request) }
-    ensures taken { IfErr result (λ error. takes rollduel_app (map string_bytes words.now) ≡ true → kind_of error ≡ OutOfMemory) }
+    ensures taken { IfErr result (λ error. takes rollduel_app (map string_bytes words.now) ≡ true
+        → kind_of error ≡ OutOfMemory) }
     ensures kinds { FailsBy (fault_of rollduel_app (map string_bytes words.now)) result }
 {
     let command = program_command(alloc, script, games(), guesses())?;
@@ -42,9 +47,12 @@ pub fn read<'a>(
 
 /// What the command that was met asks for, or no command.
 fn line_of<'a>(alloc: Global, matches: &ArgMatches<'a>) -> Result<CommandLine<'a>, AllocError>
-    ensures request { IfOk result (λ line. asked_of line.request ≡ asked_in (subcommand_rows_of matches.now)) }
-    ensures picture { IfOk result (λ line. picture_of line.picture ≡ picture_in (subcommand_rows_of matches.now)) }
-    ensures options { IfOk result (λ line. HasOptions (rows_in (subcommand_rows_of matches.now)) line.request) }
+    ensures request { IfOk result (λ line. asked_of line.request ≡ asked_in
+        (subcommand_rows_of matches.now)) }
+    ensures picture { IfOk result (λ line. picture_of line.picture ≡ picture_in
+        (subcommand_rows_of matches.now)) }
+    ensures options { IfOk result (λ line. HasOptions (rows_in (subcommand_rows_of matches.now))
+        line.request) }
     ensures workers { IfOk result (λ line. HasWorkers line.request) }
 {
     match matches.subcommand() {
@@ -72,7 +80,8 @@ fn request_of<'a>(
     name: &str,
     found: &ArgMatches<'a>,
 ) -> Result<Request<'a>, AllocError>
-    ensures asked { IfOk result (λ request. asked_of request ≡ asked_named name.now (first_value (found_of found.now))) }
+    ensures asked { IfOk result (λ request. asked_of request ≡ asked_named name.now
+        (first_value (found_of found.now))) }
     ensures options { IfOk result (HasOptions (rows_of (found_of found.now))) }
     ensures workers { IfOk result HasWorkers }
 {
@@ -84,7 +93,8 @@ fn request_of<'a>(
 
 /// What the command of this name asks for, but for a picture.
 fn work_of<'a>(alloc: Global, name: &str, found: &ArgMatches<'a>) -> Result<Request<'a>, AllocError>
-    ensures asked { IfOk result (λ request. asked_of request ≡ work_named name.now (first_value (found_of found.now))) }
+    ensures asked { IfOk result (λ request. asked_of request ≡ work_named name.now
+        (first_value (found_of found.now))) }
     ensures options { IfOk result (HasOptions (rows_of (found_of found.now))) }
     ensures workers { IfOk result HasWorkers }
 {
@@ -103,7 +113,8 @@ fn work_of<'a>(alloc: Global, name: &str, found: &ArgMatches<'a>) -> Result<Requ
 }
 
 fn task_of(name: &str, found: &ArgMatches<'_>) -> TextTask
-    ensures { result ≡ task_named name.now (first_value (found_of found.now) (codes "game")) (first_value (found_of found.now) (codes "frames")) }
+    ensures { result ≡ task_named name.now (first_value (found_of found.now) (codes "game"))
+        (first_value (found_of found.now) (codes "frames")) }
 {
     match name {
         "certify" => TextTask::Certify,
@@ -125,6 +136,7 @@ fn live_of(found: &ArgMatches<'_>) -> LiveOptions
     }
 }
 
+/// Whether an argument of this name is given.
 pub fn is_given(found: &ArgMatches<'_>, name: &str) -> bool
     ensures { result ≡ is_some (first_value (found_of found.now) name.now) }
 {
@@ -171,7 +183,8 @@ fn texts_of<'a>(
 }
 
 fn hostile_of(found: &ArgMatches<'_>) -> Option<u64>
-    ensures { result ≡ option_map (number_in 64) (first_value (found_of found.now) (codes "hostile")) }
+    ensures { result ≡ option_map (number_in 64) (first_value (found_of found.now)
+        (codes "hostile")) }
 {
     match found.get_str(HOSTILE) {
         Some(value) => Some(value.parse::<u64>().unwrap_or(0)),
@@ -271,6 +284,8 @@ fn seed_of(found: &ArgMatches<'_>) -> u64
     }
 }
 
+/// The number that an argument names; 0 if none is given, or if it is no number of 32 bits, which its parser refuses
+/// before.
 pub fn number_of(found: &ArgMatches<'_>, name: &str) -> u32
     ensures { result ≡ number_named 32 (first_value (found_of found.now) name.now) }
 {

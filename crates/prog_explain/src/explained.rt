@@ -45,6 +45,10 @@ impl Notes {
 
 /// Does what `run` does, and notes at the end of `notes` what is wrong with a line that can't be read, and what each
 /// refusal means, a line each. Where there is no memory for notes, they break off, and are told to be cut.
+///
+/// The clauses are those of `run`: with notes output, status and fault are the same. That notes are made, and break
+/// off, is tested (`tests/runs/program.t`, `faults.t`). Of a script whose session starts it is proved within the crate
+/// that each refused command gets a note, and no other (`specs/Noted.antt`).
 pub fn explain<R: Read, W: Write>(
     alloc: Global,
     task: Task,

@@ -26,7 +26,8 @@ use std::alloc::{AllocError, Global};
 use std::io::{Read, Write};
 
 /// Does what `run` does, or if more is to be told, what `explain` does; and if a picture is asked for and the text is a
-/// script that starts a session, makes that picture, before anything is written. The title is any text.
+/// script that starts a session, makes that picture, before anything is written. The title is any text. The picture
+/// shows what is seen of the session if it is watched after each command.
 pub fn show<R: Read, W: Write>(
     alloc: Global,
     task: Task,
@@ -189,7 +190,8 @@ fn see_started<G: Shown + Drop>(
 ) -> Result<String, AllocError>
     requires { length script.now.commands.items < 2 ^ 32 }
     ensures { IfOk result (λ picture. AreDrawn session.settings (game_from session.opening G.step)
-        (record { core = session.core; jobs = [] }) script.now.commands.items window (string_bytes picture)) }
+        (record { core = session.core; jobs = [] }) script.now.commands.items window
+        (string_bytes picture)) }
 {
     let mut playing = Playing::new(alloc, session, helper);
     see_playing(alloc, title, &script.commands, window, &mut playing)
@@ -219,7 +221,8 @@ fn draw_seen<G: Shown>(
     observer: Observer,
     session: &Session<G>,
 ) -> Result<String, AllocError>
-    ensures { IfOk result (λ picture. IsDrawn session.now (observed observer) (string_bytes picture)) }
+    ensures { IfOk result (λ picture. IsDrawn session.now (observed observer)
+        (string_bytes picture)) }
 {
     let title = text_of(alloc, title)?;
     let scene = observer.into_scene(alloc, session, title)?;

@@ -44,7 +44,8 @@ pub fn push_refusals(out: &mut String) -> Result<(), AllocError> {
     Ok(())
 }
 
-/// Writes a line on the refusal of the command in the line of this number.
+/// Writes a line on the refusal of the command in the line of this number: the refusal's number, and behind it its name
+/// and sentence, of which no clause says what they are.
 pub fn push_refused(notes: &mut String, line: u64, why: Refusal) -> Result<(), AllocError>
     ensures { OnOk result ((meaning : List ℕ)
         × (string_bytes notes.new ≡ string_bytes notes.old ++ refused_note line why meaning)) }

@@ -51,8 +51,9 @@ impl Holding {
         }
     }
 
-    /// Hands over the words that make the session run no frame again, and then those that have waited for as many turns as they may.
-    /// So the session knows them before it is given its local words.
+    /// Hands over the words that make the session run no frame again, and then those that have waited for as many turns
+    /// as they may. So the session knows them before it is given its local words. That the second ones are those that
+    /// are due is a clause of [`Held::turn`].
     ///
     /// # Errors
     ///
@@ -114,10 +115,13 @@ impl Holding {
 
     /// Hands over the words that make the session run no frame again: all that wait, or those that the last job was of.
     fn release<G: Game>(&mut self, session: &mut Session<G>) -> Result<(), Refusal>
-        ensures handed { OnOk result (roomless session.new ≡ roomless (told session.old
-            (take (free_of session.old self.old.held.words.items self.old.covered) self.old.held.words.items))) }
-        ensures left { OnOk result (self.new.held.words.items
-            ≡ drop (free_of session.old self.old.held.words.items self.old.covered) self.old.held.words.items) }
+        ensures handed { OnOk result
+            (roomless session.new ≡ roomless
+            (told session.old (take (free_of session.old self.old.held.words.items self.old.covered)
+            self.old.held.words.items))) }
+        ensures left { OnOk result (self.new.held.words.items ≡ drop
+            (free_of session.old self.old.held.words.items self.old.covered)
+            self.old.held.words.items) }
         ensures jobs { self.new.jobs ≡ self.old.jobs }
         ensures covered { self.new.covered ≡ self.old.covered }
     {
@@ -160,8 +164,8 @@ impl Holding {
         }
     }
 
-    /// Has the helper run the frames that the words which wait make, up to the session's frame, and takes the branch in. Its states
-    /// count from the next turn on.
+    /// Has the helper run the frames that the words which wait make, up to the session's frame, and takes the branch in,
+    /// unless the session refuses it. Its states count from the next turn on.
     ///
     /// # Errors
     ///

@@ -29,8 +29,9 @@ pub fn hear<G: Game>(
     bytes: &[u8],
     now: u32,
 ) -> Result<Result<Received, Ignored>, Refusal>
-    ensures plain { holding.old ≡ None → IfOk result (λ said. IfOk said
-        (Receives G.step session.old session.new (meeting session.old (ticking now peer.old)) peer.new bytes.now)) }
+    ensures plain { holding.old ≡ None → IfOk result
+        (λ said. IfOk said (Receives G.step session.old session.new
+        (meeting session.old (ticking now peer.old)) peer.new bytes.now)) }
     ensures held { IfSome holding.old (λ old. IfSome holding.new (λ new. IfOk result
         (HearsHeld G.step (beside session.old old.held.words.items peer.old)
         (beside session.new new.held.words.items peer.new) now bytes.now))) }
@@ -78,8 +79,10 @@ pub fn take_turn<G: Game>(
 ) -> Result<(), Refusal>
     ensures plain { holding.old ≡ None → OnOk result ((reached : Option Reached) × Turns
         session.old session.new (ticking now peer.old) peer.new (Ok reached)) }
-    ensures held { IfSome holding.old (λ old. IfSome holding.new (λ new. OnOk result (HasTurned session.old session.new
-        old.held.words.items new.held.words.items peer.old peer.new now))) }
+    ensures held { IfSome holding.old
+        (λ old. IfSome holding.new
+        (λ new. OnOk result (HasTurned session.old session.new old.held.words.items
+        new.held.words.items peer.old peer.new now))) }
     ensures same { is_some holding.new ≡ is_some holding.old }
 {
     match holding {
@@ -104,7 +107,8 @@ pub fn send<G: Game>(
     to: u8,
     now: u32,
 ) -> Result<Option<ArrayVec<u8, DATAGRAM_LIMIT>>, Refusal>
-    ensures sent { IfOk result (λ sent. IfSome sent (λ bytes. IsSent (as_networked holding.old session.old)
+    ensures sent { IfOk result
+        (λ sent. IfSome sent (λ bytes. IsSent (as_networked holding.old session.old)
         (meeting (as_networked holding.old session.old) (ticking now peer.old)) to bytes.items)) }
     ensures lost { IfOk result (λ sent. is_none sent ≡ is_lost peer.old to) }
     ensures same { holding.new ≡ holding.old }
@@ -133,7 +137,8 @@ pub fn note_settled<G: Game>(
     session: &Session<G>,
     digest: u64,
 ) -> Result<(), Refusal>
-    ensures { OnOk result (peer.new.digests ≡ noted (settled session.now.core) digest peer.old.digests) }
+    ensures { OnOk result (peer.new.digests ≡ noted (settled session.now.core) digest
+        peer.old.digests) }
 {
     if holding.is_some() {
         peer.note_state_at(session.settled(), digest);

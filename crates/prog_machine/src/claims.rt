@@ -30,7 +30,8 @@ impl Default for Claims {
 }
 
 impl Claims {
-    /// Checks the claim of a session's last roll, if there was one just now.
+    /// Checks the claim of a session's last roll, if there was one just now. As no claim is wrong, a body that only
+    /// counted would meet these clauses too.
     pub fn check<G: Game>(
         &mut self,
         alloc: Global,

@@ -180,11 +180,15 @@ pub fn go_on<G: Game + Drop>(
     relay: &mut Option<Relay>,
     session: &mut Session<G>,
 ) -> Result<bool, Refusal>
-    ensures stayed { IfOk result (λ gone. gone ≡ false → (epochs.new ≡ turned_in epochs.old peer.old) × (session.new ≡ session.old)
-        × (peer.new ≡ judged_in epochs.old (shared_peer epochs.old peer.old)) × (relay.new ≡ relay.old)) }
-    ensures gone { IfOk result (λ gone. IsTrue gone → HasGoneOn G.step (turned_in epochs.old peer.old) epochs.new
-        (judged_in (turned_in epochs.old peer.old) (judged_in epochs.old (shared_peer epochs.old peer.old)))
-        peer.new relay.old relay.new session.old session.new) }
+    ensures stayed { IfOk result
+        (λ gone. gone ≡ false → (epochs.new ≡ turned_in epochs.old peer.old)
+        × (session.new ≡ session.old)
+        × (peer.new ≡ judged_in epochs.old (shared_peer epochs.old peer.old))
+        × (relay.new ≡ relay.old)) }
+    ensures gone { IfOk result (λ gone. IsTrue gone → HasGoneOn G.step
+        (turned_in epochs.old peer.old) epochs.new (judged_in (turned_in epochs.old peer.old)
+        (judged_in epochs.old (shared_peer epochs.old peer.old))) peer.new relay.old relay.new
+        session.old session.new) }
 {
     epochs.turn(peer);
     if epochs.chain.over(peer, session).is_none() {
@@ -217,7 +221,8 @@ fn refusal_of(why: OnwardRefusal) -> Refusal {
 ///
 /// `Gap` if one of them isn't known; `NoMemory`.
 pub fn keep_rows<S: Networked>(rows: &mut Vec<Row>, session: &S, end: u32) -> Result<(), Refusal>
-    ensures { OnOk result (rows.new.items ≡ rows.old.items ++ rows_to (S.seen session.now).core.players end) }
+    ensures { OnOk result (rows.new.items ≡ rows.old.items
+        ++ rows_to (S.seen session.now).core.players end) }
 {
     for frame in 0..end {
         let Some(row) = known_row(session, frame) else {

@@ -30,6 +30,9 @@ enum Came {
 
 /// Makes the guesses of all others' next words that are worth the most. Each is run ahead, and its branch taken in, before the
 /// next is made: until as many were as there may be, or one is refused. Answers how many were taken in.
+///
+/// No clause says that these guesses are the ones that are worth the most, or that any is made. That they spare most of
+/// the frames that are run again is tested (`tests/runs/matches.t`).
 pub fn guess_best<G: Game>(
     alloc: Global,
     session: &mut Session<G>,

@@ -75,7 +75,8 @@ fn line_of(one: u32, other: u32, frame: u32) -> Option<LineAt>
 /// `ManyLines` if there are more than 8, `UnreadableLine` if a text isn't one.
 pub fn read_lines(texts: &[&str]) -> Result<Lines, PeersFault>
     ensures named { IfOk result (NamesLines (map (λ text. text.now) texts.now)) }
-    ensures many { IfErr result (λ why. why ≡ PeersFault.ManyLines → LINE_LIMIT < length texts.now) }
+    ensures many { IfErr result (λ why. why ≡ PeersFault.ManyLines
+        → LINE_LIMIT < length texts.now) }
     ensures others { IfErr result (λ why. length texts.now ≤ LINE_LIMIT
         → why ≡ PeersFault.UnreadableLine) }
 {

@@ -373,7 +373,8 @@ impl<G: Shown + Drop> Machine<G> {
         ensures state { IfOk result (λ it. IfSome it (λ guest. G.snapshot_value guest.state
             ≡ run_of G.step self.old.session.opening
             (timeline self.old.session.core.players (settled self.old.session.core)))) }
-        ensures before { IfOk result (λ it. IfSome it (λ guest. (guest.before.items ≡ self.old.before.items)
+        ensures before { IfOk result
+            (λ it. IfSome it (λ guest. (guest.before.items ≡ self.old.before.items)
             × (guest.left ≡ self.old.left) × (guest.came ≡ self.old.came))) }
     {
         let Some(epochs) = &self.epochs else {
@@ -414,7 +415,8 @@ impl<G: Shown + Drop> Machine<G> {
         ensures me { self.new.me ≡ self.old.me }
         ensures state { OnOk result (self.new.session.opening ≡ G.snapshot_value guest.state) }
         ensures before { OnOk result ((self.new.before.items ≡ guest.before.items)
-            × (self.new.left ≡ guest.left) × (self.new.came ≡ guest.came) × (self.new.is_silent ≡ false)) }
+            × (self.new.left ≡ guest.left) × (self.new.came ≡ guest.came)
+            × (self.new.is_silent ≡ false)) }
     {
         let Some(game) = self.spares.pop() else {
             return Err(Refusal::InvalidRequest);
@@ -640,7 +642,8 @@ impl<G: Shown + Drop> Machine<G> {
     fn press(&mut self) -> Result<(), Refusal>
         ensures me { self.new.me ≡ self.old.me }
         ensures given { OnOk result ((self.new.session ≡ self.old.session)
-            ⊎ (self.new.session ≡ pressed (base_of self.old.epochs) self.old.session self.old.me self.old.words.items)) }
+            ⊎ (self.new.session ≡ pressed (base_of self.old.epochs) self.old.session self.old.me
+            self.old.words.items)) }
     {
         let base = base_of(&self.epochs);
         let last = self.session.settings().limit;
@@ -676,8 +679,9 @@ impl<G: Shown + Drop> Machine<G> {
     fn give(&mut self, player: u8, word: u32) -> Result<(), Refusal>
         ensures me { self.new.me ≡ self.old.me }
         ensures given { OnOk result (MatchOption (local_refusal self.old.session player)
-            ((self.new.session ≡ after_local self.old.session player word) × (self.new.counts ≡ self.old.counts))
-            (λ why. (why ≡ TooFarAhead) × (self.new.session ≡ self.old.session)
+            ((self.new.session ≡ after_local self.old.session player word)
+            × (self.new.counts ≡ self.old.counts)) (λ why. (why ≡ TooFarAhead)
+            × (self.new.session ≡ self.old.session)
             × (self.new.counts ≡ waited_once self.old.counts))) }
     {
         match self.session.add_local_input(player, word) {
@@ -695,9 +699,11 @@ impl<G: Shown + Drop> Machine<G> {
     fn watch(&mut self, alloc: Global, before: usize) -> Result<(), Refusal>
         ensures me { self.new.me ≡ self.old.me }
         ensures seen { let rolled = has_rolled self.old.session.log before in OnOk result
-            (observed self.new.observer ≡ after_watch (observed self.old.observer) self.old.session rolled) }
-        ensures checked { let rolled = has_rolled self.old.session.log before in OnOk result (self.new.claims.checked
-            ≡ (if rolled then min (self.old.claims.checked + 1) (2 ^ 64 - 1) else self.old.claims.checked)) }
+            (observed self.new.observer ≡ after_watch (observed self.old.observer) self.old.session
+            rolled) }
+        ensures checked { let rolled = has_rolled self.old.session.log before in OnOk result
+            (self.new.claims.checked ≡ (if rolled then min (self.old.claims.checked + 1)
+            (2 ^ 64 - 1) else self.old.claims.checked)) }
     {
         let rolled = has_rolled(self.session.log(), before);
         self.observer.watch(alloc, &self.session, rolled)?;
@@ -895,7 +901,8 @@ impl<G: Shown> Machine<G> {
 
     /// The frame of the match at which a machine's player left.
     pub fn left_at(&self, machine: u8) -> Option<u32>
-        ensures { result ≡ left_in self.now.left self.now.epochs self.now.peer.member.mesh.machine machine }
+        ensures { result ≡ left_in self.now.left self.now.epochs self.now.peer.member.mesh.machine
+            machine }
     {
         match self.left.get(usize::from(machine)) {
             Some(Some(frame)) => Some(*frame),
@@ -999,7 +1006,8 @@ fn others_of(alloc: Global, options: &PeersOptions, me: u8) -> Result<Vec<Other>
 fn holding_of(options: &PeersOptions) -> Option<Holding>
     ensures none { MatchOption options.now.held (is_none result ≡ true)
         (λ turns. is_none result ≡ not (is_in_range 1 8 turns)) }
-    ensures turns { IfSome options.now.held (λ turns. IfSome result (λ holding. holding.held.turns ≡ turns)) }
+    ensures turns { IfSome options.now.held
+        (λ turns. IfSome result (λ holding. holding.held.turns ≡ turns)) }
 {
     match options.held {
         Some(turns) => Holding::new(turns),

@@ -142,7 +142,8 @@ impl PeersOptions {
         split_of(&self.splits, machine)
     }
 
-    /// Whether a machine is there to the end: it never goes silent, or comes back, and isn't cut off.
+    /// Whether a machine is there to the end: it never goes silent, or comes back, and isn't cut off. In a split the
+    /// larger part plays on, or of two as large the one with machine 0.
     pub fn stays(&self, machine: u8) -> bool
         ensures { result ≡ stays self.now machine }
     {
@@ -362,7 +363,8 @@ impl PeersOptions {
 
     /// Whether the line from one machine to another doesn't work once the one is at a frame.
     pub fn is_broken(&self, one: u8, other: u8, frame: u32) -> bool
-        ensures { result ≡ (is_broken self.now.breaks self.now.heals one other frame || is_parted self.now.splits one other frame) }
+        ensures { result ≡ (is_broken self.now.breaks self.now.heals one other frame || is_parted
+            self.now.splits one other frame) }
     {
         is_broken(&self.breaks, &self.heals, one, other, frame)
             || is_parted(&self.splits, one, other, frame)

@@ -18,7 +18,8 @@ pub type Splits = [Option<u32>; MACHINE_LIMIT];
 ///
 /// As of those at which they go silent.
 pub fn read_splits(texts: &[&str]) -> Result<Splits, PeersFault>
-    ensures { IfOk result (λ splits. NamesStops no_stops (map (λ text. text.now) texts.now) splits) }
+    ensures { IfOk result (λ splits. NamesStops no_stops (map (λ text. text.now) texts.now)
+        splits) }
 {
     match read_stops(texts) {
         Ok(splits) => Ok(splits),

@@ -159,7 +159,8 @@ impl Hearing {
         firsts: &[Row],
         count: usize,
     ) -> Result<Vec<Option<Cell>>, AllocError>
-        ensures { IfOk result (λ cells. cells.items ≡ cells_to (heard_words self.now) firsts.now count) }
+        ensures { IfOk result (λ cells. cells.items ≡ cells_to (heard_words self.now) firsts.now
+            count) }
     {
         (0..count)
             .map(|frame| self.cell(frame, firsts))

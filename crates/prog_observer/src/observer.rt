@@ -96,8 +96,9 @@ impl Observer {
         })
     }
 
-    /// Another session has come in the place of the one that was watched, from this frame on. Words that it has been told by now count as
-    /// known from there on, and frames that it has run as run for the first time. What the one before had of these frames is forgotten.
+    /// Another session has come in the place of the one that was watched, from this frame on. Words that it has been
+    /// told by now count as known from there on, and frames that it has run as run for the first time. What the one
+    /// before had of these frames is forgotten. The frame is a seam of the scene.
     ///
     /// # Errors
     ///
@@ -109,8 +110,8 @@ impl Observer {
         session: &Session<G>,
         base: u32,
     ) -> Result<(), Refusal>
-        ensures { OnOk result (observed self.new
-            ≡ begun (observed self.old) base session.now (if session.now.core.frame == 0 then None else last_claim session.now)) }
+        ensures { OnOk result (observed self.new ≡ begun (observed self.old) base session.now
+            (if session.now.core.frame == 0 then None else last_claim session.now)) }
     {
         self.close(alloc, base)?;
         self.hear(session, false)?;
@@ -150,7 +151,8 @@ impl Observer {
         session: &Session<G>,
         claim: Claim,
     ) -> Result<(), AllocError>
-        ensures { OnOk result (observed self.new ≡ started_by (observed self.old) session.now claim) }
+        ensures { OnOk result (observed self.new ≡ started_by (observed self.old) session.now
+            claim) }
     {
         let rows = rows_from(alloc, session, &claim, self.settled)?;
         self.firsts.extend_from_slice(&rows)?;
@@ -161,6 +163,9 @@ impl Observer {
     }
 
     /// Notes what has come since, and if the last call was a sync or an advance that the session took, what it rolled back.
+    ///
+    /// A roll counts as a rollback if it ran frames again, or if a row that was shown is another one now. Its cause is
+    /// the first frame and player whose cell differs; from that frame on GGPO runs all again.
     ///
     /// # Errors
     ///
@@ -192,7 +197,8 @@ impl Observer {
     ///
     /// `AllocError` if the allocator has no room. Then a part may have been noted.
     pub fn hear<G: Game>(&mut self, session: &Session<G>, carried: bool) -> Result<(), AllocError>
-        ensures { OnOk result (observed self.new ≡ after_words carried (observed self.old) session.now) }
+        ensures { OnOk result (observed self.new ≡ after_words carried (observed self.old)
+            session.now) }
     {
         let how = Coming {
             at: frame_from(self.base, self.frame),
@@ -311,8 +317,8 @@ impl Observer {
     ) -> Result<Scene, AllocError>
         ensures title { IfOk result (λ scene. scene.title ≡ title) }
         ensures from { IfOk result (λ scene. scene.from ≡ (observed self).window.from) }
-        ensures to { IfOk result
-            (λ scene. scene.to ≡ min (observed self).window.to (frame_from (observed self).base (observed self).frame)) }
+        ensures to { IfOk result (λ scene. scene.to ≡ min (observed self).window.to
+            (frame_from (observed self).base (observed self).frame)) }
         ensures lanes { IfOk result (λ scene. map lane_shown scene.lanes.items
             ≡ map (lane_in session.now (observed self).firsts) (observed self).heard) }
         ensures rolls { IfOk result (λ scene. scene.rolls.items ≡ (observed self).rolls) }
@@ -336,9 +342,12 @@ impl Observer {
 impl HeldTotals {
     /// The same, and what is counted of a player's words.
     fn with(&self, hearing: &Hearing) -> HeldTotals
-        ensures words { result.words ≡ capped (self.now.words + held_words_of (heard_words hearing.now)) }
-        ensures turns { result.turns ≡ capped (self.now.turns + turns_of (heard_words hearing.now)) }
-        ensures soon { result.soon ≡ capped (self.now.soon + soon_words_of (heard_words hearing.now)) }
+        ensures words { result.words ≡ capped
+            (self.now.words + held_words_of (heard_words hearing.now)) }
+        ensures turns { result.turns ≡ capped
+            (self.now.turns + turns_of (heard_words hearing.now)) }
+        ensures soon { result.soon ≡ capped
+            (self.now.soon + soon_words_of (heard_words hearing.now)) }
     {
         HeldTotals {
             words: self.words.saturating_add(hearing.held_words() as u64),

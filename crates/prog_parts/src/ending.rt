@@ -4,7 +4,9 @@ use crate::fault::PlayFault;
 /// The games that a script can be played with, and that can be tested.
 #[derive(Clone, Copy, Debug, PartialEq, Eq)]
 pub enum GameName {
+    /// The sum of `roll_game`'s `Tally`.
     Tally,
+    /// The ship duel, with a ship for each player.
     Duel,
 }
 

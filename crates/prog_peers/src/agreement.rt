@@ -15,7 +15,8 @@ use roll_seam::Epochs;
 /// Whether two machines are in the same epoch, have settled the same rows in it and before, which lead to the same state, and each
 /// player left both of them at the same frame, or neither.
 fn are_alike<G: Shown>(first: &Machine<G>, second: &Machine<G>) -> bool
-    ensures { IsTrue result → AreAlike G.step (played first.now.session first.now.peer first.now.epochs first.now.before.items)
+    ensures { IsTrue result → AreAlike G.step
+        (played first.now.session first.now.peer first.now.epochs first.now.before.items)
         (played second.now.session second.now.peer second.now.epochs second.now.before.items) }
 {
     let (one, other) = (&first.session, &second.session);
@@ -51,7 +52,8 @@ fn is_same_past(one: &[Row], other: &[Row]) -> bool
 
 /// Whether each player left both machines at the same frame, or neither.
 fn is_left_alike<G: Shown>(first: &Machine<G>, second: &Machine<G>) -> bool
-    ensures { IsTrue result → IsLeftAlike (beside first.now.session first.now.peer) (beside second.now.session second.now.peer) }
+    ensures { IsTrue result → IsLeftAlike (beside first.now.session first.now.peer)
+        (beside second.now.session second.now.peer) }
 {
     let (one, other) = (first.peer.mesh(), second.peer.mesh());
     for player in 0..PLAYER_LIMIT as u8 {
@@ -68,8 +70,13 @@ fn agrees_if_it_stays<G: Shown>(
     first: &Machine<G>,
     machine: &Machine<G>,
 ) -> bool
-    ensures { IsTrue result → IfStays options.now (AreAlike G.step (played first.now.session first.now.peer first.now.epochs first.now.before.items))
-        (record { me = machine.now.me; member = played machine.now.session machine.now.peer machine.now.epochs machine.now.before.items }) }
+    ensures { IsTrue result → IfStays options.now
+        (AreAlike G.step (played first.now.session first.now.peer first.now.epochs
+        first.now.before.items)) (record {
+          me = machine.now.me;
+          member = played machine.now.session machine.now.peer machine.now.epochs
+              machine.now.before.items;
+        }) }
 {
     !options.stays(machine.me) || are_alike(first, machine)
 }
@@ -80,9 +87,14 @@ pub fn all_agree<G: Shown>(
     machines: &[Machine<G>],
     first: &Machine<G>,
 ) -> bool
-    ensures { IsTrue result → All (λ machine. IfStays options.now
-        (AreAlike G.step (played first.now.session first.now.peer first.now.epochs first.now.before.items))
-        (record { me = machine.me; member = played machine.session machine.peer machine.epochs machine.before.items })) machines.now }
+    ensures { IsTrue result
+        → All (λ machine. IfStays options.now
+        (AreAlike G.step (played first.now.session first.now.peer first.now.epochs
+        first.now.before.items)) (record {
+          me = machine.me;
+          member = played machine.session machine.peer machine.epochs
+              machine.before.items;
+        })) machines.now }
 {
     for machine in machines {
         if !agrees_if_it_stays(options, first, machine) {

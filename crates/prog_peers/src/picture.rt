@@ -47,11 +47,16 @@ pub fn picture_of<G: Shown + Drop>(
 ) -> Result<Option<String>, Refusal>
     ensures none { IfOk result (λ picture. window ≡ None → picture ≡ None) }
     ensures made { IfOk result (λ picture. IsSome window → IsSome picture) }
-    ensures drawn { IfOk result (λ picture. IfSome picture (λ text. IsOfFirst options.now
-        (map (λ machine. record {
-          seated = record { me = machine.me; member = played machine.session machine.peer machine.epochs machine.before.items };
+    ensures drawn { IfOk result
+        (λ picture. IfSome picture (λ text. IsOfFirst options.now (map (λ machine. record {
+          seated = record {
+            me = machine.me;
+            member = played machine.session machine.peer machine.epochs
+                machine.before.items;
+          };
           seen = observed machine.observer;
-        }) machines.old) (string_bytes text))) }
+        }) machines.old)
+        (string_bytes text))) }
 {
     match window {
         None => Ok(None),
@@ -65,11 +70,15 @@ fn view_of<G: Shown + Drop>(
     options: &PeersOptions,
     machines: &mut [Machine<G>],
 ) -> Result<String, Refusal>
-    ensures { IfOk result (λ picture. IsOfFirst options.now
-        (map (λ machine. record {
-          seated = record { me = machine.me; member = played machine.session machine.peer machine.epochs machine.before.items };
-          seen = observed machine.observer;
-        }) machines.old) (string_bytes picture)) }
+    ensures { IfOk result (λ picture. IsOfFirst options.now (map (λ machine. record {
+      seated = record {
+        me = machine.me;
+        member = played machine.session machine.peer machine.epochs
+            machine.before.items;
+      };
+      seen = observed machine.observer;
+    }) machines.old)
+        (string_bytes picture)) }
 {
     let Some(place) = first_that_stays(options, machines) else {
         return Err(Refusal::InvalidRequest);
@@ -87,7 +96,8 @@ fn draw_seen<G: Shown>(
     machine: &Machine<G>,
     observer: Observer,
 ) -> Result<String, AllocError>
-    ensures { IfOk result (λ picture. IsDrawn machine.now.session (observed observer) (string_bytes picture)) }
+    ensures { IfOk result (λ picture. IsDrawn machine.now.session (observed observer)
+        (string_bytes picture)) }
 {
     let scene = match title_of(alloc, options, machine.me) {
         Ok(title) => observer.into_scene(alloc, &machine.session, title)?,

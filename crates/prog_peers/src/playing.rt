@@ -55,9 +55,14 @@ impl<G: Shown + Drop> Table<G> {
     pub fn play(&mut self, alloc: Global, options: &PeersOptions) -> Result<End, Refusal>
         ensures kept { OnOk result (map (λ m. m.me) self.new.machines.items
             ≡ map (λ m. m.me) self.old.machines.items) }
-        ensures over { IfOk result (λ end. end ≡ IsEnded → All (λ machine. IfStays options.now
-            (λ member. IsOver options.now member.epochs member.here.session)
-            (record { me = machine.me; member = played machine.session machine.peer machine.epochs machine.before.items })) self.new.machines.items) }
+        ensures over { IfOk result
+            (λ end. end ≡ IsEnded
+            → All (λ machine. IfStays options.now
+            (λ member. IsOver options.now member.epochs member.here.session) (record {
+              me = machine.me;
+              member = played machine.session machine.peer machine.epochs
+                  machine.before.items;
+            })) self.new.machines.items) }
     {
         for tick in 0..most_ticks(options.common.frames) {
             if self.is_over(options) {
@@ -70,9 +75,13 @@ impl<G: Shown + Drop> Table<G> {
 
     /// Whether each machine that stays has played its last frame, and knows all words up to it; and all are in one epoch.
     fn is_over(&self, options: &PeersOptions) -> bool
-        ensures { IsTrue result → All (λ machine. IfStays options.now
-            (λ member. IsOver options.now member.epochs member.here.session)
-            (record { me = machine.me; member = played machine.session machine.peer machine.epochs machine.before.items })) self.now.machines.items }
+        ensures { IsTrue result
+            → All (λ machine. IfStays options.now
+            (λ member. IsOver options.now member.epochs member.here.session) (record {
+              me = machine.me;
+              member = played machine.session machine.peer machine.epochs
+                  machine.before.items;
+            })) self.now.machines.items }
     {
         for machine in &self.machines {
             if !is_over_if_it_stays(options, machine) {
@@ -178,8 +187,12 @@ impl<G: Shown + Drop> Table<G> {
 
 /// Whether a machine has played its last frame and knows all words up to it, or doesn't stay.
 fn is_over_if_it_stays<G: Shown + Drop>(options: &PeersOptions, machine: &Machine<G>) -> bool
-    ensures { IsTrue result → IfStays options.now (λ member. IsOver options.now member.epochs member.here.session)
-        (record { me = machine.now.me; member = played machine.now.session machine.now.peer machine.now.epochs machine.now.before.items }) }
+    ensures { IsTrue result → IfStays options.now
+        (λ member. IsOver options.now member.epochs member.here.session) (record {
+          me = machine.now.me;
+          member = played machine.now.session machine.now.peer machine.now.epochs
+              machine.now.before.items;
+        }) }
 {
     !options.stays(machine.me) || machine.is_over(options)
 }

@@ -33,6 +33,11 @@ struct Played {
 
 /// Plays a match, and writes its tables and its last line. The status is 0 only if all is well. Options that no match is
 /// played with are answered `refused 11`. If a picture is asked for, it shows what the first machine that stays saw.
+///
+/// Within the crate clauses say that rollbacks, held words, jobs and branches are counted of the machines that agreed.
+/// Tests alone show that tables and last line print these counts (`tests/runs/match.t`), that a match ends, that
+/// machines hear each other and come when they are to, and that guesses and words that are held back change no state
+/// (`matches.t`, `peers.t`, `comers.t`, `holding.t`).
 pub fn run<W: Write>(
     alloc: Global,
     options: &PeersOptions,
@@ -130,7 +135,8 @@ fn keep(sight: &mut Sight, picture: Option<String>)
 /// Plays a match, and answers how it came out.
 fn play(alloc: Global, options: &PeersOptions, window: Option<Window>) -> Result<Played, Refusal>
     ensures played { OnOk result (fault_of options.now ≡ None) }
-    ensures was { IfOk result (λ p. IsPlayed options.now (step_of options.now.common.game) p.report p.picture) }
+    ensures was { IfOk result (λ p. IsPlayed options.now (step_of options.now.common.game) p.report
+        p.picture) }
     ensures none { IfOk result (λ p. window ≡ None → p.picture ≡ None) }
     ensures made { IfOk result (λ p. IsSome window → IsSome p.picture) }
 {

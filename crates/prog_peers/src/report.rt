@@ -104,9 +104,12 @@ pub fn sum_up<G: Shown>(
     ensures end { IfOk result (λ report. report.end ≡ end) }
     ensures told { IfOk result (λ report. map told_cost report.outcomes.items
         ≡ map (λ machine. cost_by machine.me (observed machine.observer)) machines.now) }
-    ensures alike { IfOk result (λ report. IsTrue report.agree → (first : Played) × All
-        (λ machine. IfStays options.now (AreAlike G.step first)
-        (record { me = machine.me; member = played machine.session machine.peer machine.epochs machine.before.items })) machines.now) }
+    ensures alike { IfOk result (λ report. IsTrue report.agree → (first : Played)
+        × All (λ machine. IfStays options.now (AreAlike G.step first) (record {
+          me = machine.me;
+          member = played machine.session machine.peer machine.epochs
+              machine.before.items;
+        })) machines.now) }
 {
     let Some(place) = first_that_stays(options, machines) else {
         return Err(Refusal::InvalidRequest);
@@ -169,11 +172,14 @@ fn outcome_of<G: Shown>(machine: &Machine<G>, first: &Machine<G>) -> Result<Outc
     ensures machine { IfOk result (λ outcome. outcome.machine ≡ machine.now.me) }
     ensures jobs { IfOk result (λ outcome. outcome.jobs ≡ machine.now.session.counts.copies - 1) }
     ensures taken { IfOk result (λ outcome. outcome.taken ≡ grafts_in machine.now.session.log) }
-    ensures ahead { IfOk result (λ outcome. outcome.ahead ≡ (G.call_counts machine.now.helper).turns) }
+    ensures ahead { IfOk result
+        (λ outcome. outcome.ahead ≡ (G.call_counts machine.now.helper).turns) }
     ensures counts { IfOk result (λ outcome. outcome.counts ≡ machine.now.counts) }
-    ensures totals { IfOk result (λ outcome. outcome.totals ≡ totals_of (observed machine.now.observer).rolls) }
+    ensures totals { IfOk result
+        (λ outcome. outcome.totals ≡ totals_of (observed machine.now.observer).rolls) }
     ensures claims { IfOk result (λ outcome. outcome.claims ≡ machine.now.claims) }
-    ensures held { IfOk result (λ outcome. outcome.held ≡ held_totals (observed machine.now.observer).heard) }
+    ensures held { IfOk result
+        (λ outcome. outcome.held ≡ held_totals (observed machine.now.observer).heard) }
     ensures held_jobs { IfOk result (λ outcome. outcome.held_jobs ≡ jobs_of machine.now.holding) }
 {
     let rolls = machine.observer.rolls.as_slice();

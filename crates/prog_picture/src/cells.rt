@@ -9,9 +9,10 @@ use crate::view::View;
 use std::alloc::{AllocError, Global};
 use std::fmt::Write;
 
-/// How tall a word is, and how far below it is the line of the frames in which words are heard.
+/// How tall a word is.
 pub const CELL_HEIGHT: u32 = 22;
 
+/// How far below its words a lane has the line of the frames in which they are heard.
 pub const HEARD_DEPTH: u32 = 26;
 
 /// What became of a word.

@@ -25,8 +25,12 @@ const LANE_HEIGHT: u32 = CELL_HEIGHT + HEARD_DEPTH + 18;
 /// How many lanes are shown at most.
 const LANE_LIMIT: usize = 8;
 
-/// The picture of a scene, as the text of an SVG: the element of each rollback that is shown, once and in order, with its
-/// numbers, and no rectangle but those of the rollbacks.
+/// The picture of a scene, as the text of an SVG: the element of each rollback that is shown, once and in order, with
+/// its numbers, and no rectangle but those of the rollbacks: so none is drawn that never was, and none twice, whatever
+/// title and words are.
+///
+/// How words, saved states and the page look no clause says: `tests/pictures` reads pictures as XML, counts their
+/// elements, and has them rendered.
 ///
 /// # Errors
 ///

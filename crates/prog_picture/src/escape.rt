@@ -15,8 +15,8 @@ pub fn push_escaped(
     text: &str,
     most: usize,
 ) -> Result<(), AllocError>
-    ensures { OnOk result
-        (string_bytes out.new ≡ string_bytes out.old ++ flat_map escaped (take most (chars text.now))) }
+    ensures { OnOk result (string_bytes out.new ≡ string_bytes out.old ++ flat_map escaped
+        (take most (chars text.now))) }
 {
     push_characters(out, &characters(alloc, text, most)?)
 }

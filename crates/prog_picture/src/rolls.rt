@@ -10,9 +10,10 @@ use crate::view::View;
 use std::alloc::{AllocError, Global};
 use std::fmt::Write;
 
-/// In how many rows rollbacks stand, and how tall a row is.
+/// In how many rows rollbacks stand.
 pub const ROWS: u32 = 8;
 
+/// How tall such a row is.
 pub const ROW_HEIGHT: u32 = 12;
 
 /// A rollback in the picture, in its units.

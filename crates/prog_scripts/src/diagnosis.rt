@@ -5,7 +5,7 @@ ghost use Rattle.prog_scripts.specs.DiagnosisTexts.{length_text};
 
 use std::fmt::{self, Display, Formatter};
 
-/// What is wrong with a line of a text.
+/// What is wrong with a line of a text. Its `Display` tells it; no clause says how a field of the line looks in that.
 #[derive(Clone, Copy, Debug, PartialEq, Eq)]
 pub enum Diagnosis<'a> {
     /// The text ends before the line.
@@ -14,6 +14,7 @@ pub enum Diagnosis<'a> {
     Unended,
     /// A CR stands before the LF.
     CarriageReturn,
+    /// The line is empty.
     Blank,
     /// A space at the line's beginning or end, or after another. The column is counted from 1.
     ExtraSpace(usize),
@@ -21,6 +22,7 @@ pub enum Diagnosis<'a> {
     AfterEnd,
     /// No command has this letter.
     UnknownCommand(&'a [u8]),
+    /// Too few or too many fields.
     FieldCount {
         found: usize,
         wanted: usize,
@@ -30,10 +32,12 @@ pub enum Diagnosis<'a> {
         found: &'a [u8],
         wanted: &'static str,
     },
+    /// A field, or a part of a list, is no number.
     Number {
         found: &'a [u8],
         why: NumberFault,
     },
+    /// A number that is too small or too large.
     OutOfRange {
         found: u32,
         least: u32,
@@ -57,9 +61,11 @@ pub enum Diagnosis<'a> {
 /// Why a field is no number.
 #[derive(Clone, Copy, Debug, PartialEq, Eq)]
 pub enum NumberFault {
+    /// There is nothing.
     Empty,
     /// Something besides the digits 0 to 9.
     NotDigits,
+    /// A 0 stands before other digits.
     LeadingZero,
     /// Over 4,294,967,295.
     TooLarge,

@@ -12,6 +12,9 @@ use roll_frame::{FRAME_LIMIT, PATH_LIMIT};
 use roll_text::{number, split_line};
 
 /// What is wrong with the line of this number, from 1, which can't be read as a task wants it.
+///
+/// Whatever is said is true of the line. An empty line, a CR at its end and a space too many come first: nothing else is
+/// said of such a line. Which fields and ranges a line is asked for is tested (`tests/runs/program.t`), not proved.
 pub fn diagnose<'a>(task: Task, text: &'a [u8], number: u64) -> Diagnosis<'a>
     ensures said { IsSaidOf text.now number result }
     ensures task { IsOfTask task result }

@@ -31,6 +31,7 @@ impl<G: Game> Model for Branch<G> {
 /// How the run of a job ended.
 #[derive(Drop)]
 pub enum Done<G: Game> {
+    /// The job's branch.
     Grown(Branch<G>),
     /// The game refused. The job's ticket.
     Refused(u64),
@@ -63,7 +64,8 @@ impl<G: Game> Branch<G> {
     /// The state after so many rows; after none the one that it started from.
     pub fn state(&self, count: usize) -> &G::Snapshot
         requires { count ≤ length self.now.route.rows.items }
-        ensures { G.snapshot_value result.now ≡ run G.step self.now.from (take count self.now.route.rows.items) }
+        ensures { G.snapshot_value result.now ≡ run G.step self.now.from
+            (take count self.now.route.rows.items) }
     {
         if count == 0 {
             return &self.from;
@@ -75,7 +77,8 @@ impl<G: Game> Branch<G> {
     pub fn into_parts(self) -> Parts<G>
         ensures ticket { result.ticket ≡ self.ticket }
         ensures route { result.route ≡ self.route }
-        ensures states { AreStates G.snapshot_value G.step self.from self.route.rows.items result.states.items }
+        ensures states { AreStates G.snapshot_value G.step self.from self.route.rows.items
+            result.states.items }
     {
         Parts {
             ticket: self.ticket,

@@ -39,7 +39,11 @@ impl<G: Game> Job<G> {
         requires empty { room.items ≡ [] }
         requires room { length route.rows.items ≤ vec_capacity room }
         ensures none { IsNone result ↔ (route.rows.items ≡ []) }
-        ensures job { IfSome result (λ job. job ≡ record { ticket = 0; route = route; from = G.snapshot_value from }) }
+        ensures job { IfSome result (λ job. job ≡ record {
+          ticket = 0;
+          route = route;
+          from = G.snapshot_value from;
+        }) }
     {
         if route.count() == 0 {
             return None;

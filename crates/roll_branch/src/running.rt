@@ -14,7 +14,8 @@ use roll_game::{Game, NoMemory, advance_and_save};
 /// states that were saved by then are dropped.
 pub fn extend<G: Game>(game: &mut G, job: Job<G>) -> Done<G>
     ensures done { Ends job result }
-    ensures counts { IsAsked (is_grown result) (length job.route.rows.items) (G.call_counts game.old) (G.call_counts game.new) }
+    ensures counts { IsAsked (is_grown result) (length job.route.rows.items)
+        (G.call_counts game.old) (G.call_counts game.new) }
 {
     let Job {
         ticket,
@@ -43,8 +44,10 @@ fn run_rows<G: Game>(
     requires some { 0 < length rows.now }
     requires empty { room.items ≡ [] }
     requires room { length rows.now ≤ vec_capacity room }
-    ensures states { IfOk result (λ states. AreStates G.snapshot_value G.step (G.snapshot_value from.now) rows.now states.items) }
-    ensures counts { IsAsked (is_ok result) (length rows.now) (G.call_counts game.old) (G.call_counts game.new) }
+    ensures states { IfOk result (λ states. AreStates G.snapshot_value G.step
+        (G.snapshot_value from.now) rows.now states.items) }
+    ensures counts { IsAsked (is_ok result) (length rows.now) (G.call_counts game.old)
+        (G.call_counts game.new) }
 {
     let Ok(loaded) = game.load(from) else {
         return Err(NoMemory);

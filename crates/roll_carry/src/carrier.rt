@@ -17,7 +17,10 @@ use std::marker::Model;
 /// What a machine carries for others, and has carried by others. It knows neither sessions nor keys: whoever has it says which
 /// machines are shut, since they are gone or don't play yet, and seals what goes out.
 ///
-/// It takes memory when it is made, for a match of three machines or more, and none after that.
+/// It takes memory when it is made, for a match of three machines or more, and none after that. At most four datagrams
+/// wait for one machine: a parcel for which these have no room, or whose maker would have more than its share waiting,
+/// is dropped. No clause says that what is carried arrives: it may be dropped at each machine, as on a line. That it
+/// arrives where lines break is tested (`tests/c/carrying.c`, `tests/c/trials/lines.c`).
 #[derive(Debug, Drop)]
 pub struct Carrier {
     pub(crate) map: LineMap,

@@ -22,8 +22,8 @@ impl Carrier {
         requires least { TAIL_LEAST ≤ length parcel.now.tail.now }
         requires most { length parcel.now.tail.now ≤ TAIL_LIMIT }
         ensures waits { self.new ≡ waiting_for self.old hop (parcel_value parcel.now) }
-        ensures said { result ≡ (nat_lt hop (length self.old.lanes)
-            && has_place self.old.map.machines (lane_of self.old.lanes hop) (parcel_value parcel.now)) }
+        ensures said { result ≡ (nat_lt hop (length self.old.lanes) && has_place
+            self.old.map.machines (lane_of self.old.lanes hop) (parcel_value parcel.now)) }
     {
         hop < self.lanes.len() && self.lanes[hop].push(parcel, self.map.machines)
     }
@@ -41,7 +41,9 @@ impl Carrier {
         }
     }
 
-    /// A datagram of this machine is for another: it is carried, if the line between the two isn't whole.
+    /// A datagram of this machine is for another: it is carried, if the line between the two isn't whole by the map.
+    /// All machines that hear this one, and from which a way leads there by machines that aren't shut, carry in turn,
+    /// those with fewer steps first; after every 16 datagrams of one maker for one receiver one carrier is passed over.
     pub fn carry(&mut self, shut: &[bool; MACHINE_LIMIT], to: u8, tail: &[u8])
         requires least { TAIL_LEAST ≤ length tail.now }
         requires most { length tail.now ≤ TAIL_LIMIT }
@@ -117,8 +119,10 @@ impl Carrier {
         self.wait(place, &Parcel { to, steps: 0, tail })
     }
 
-    /// A datagram of this machine is for another: it is carried, if the line between the two isn't whole; and if it goes straight in this
-    /// turn, it waits to go with what is carried to that machine, or is to go out at once. Says whether it is to go out at once.
+    /// A datagram of this machine is for another: it is carried, if the line between the two isn't whole; and if it
+    /// goes straight in this turn, it waits to go with what is carried to that machine, or is to go out at once. Says
+    /// whether it is to go out at once. It goes straight in each turn if the other machine hears this one or nobody
+    /// carries, and else in one of 17.
     pub fn send(&mut self, shut: &[bool; MACHINE_LIMIT], to: u8, tail: &[u8]) -> bool
         requires least { TAIL_LEAST ≤ length tail.now }
         requires most { length tail.now ≤ TAIL_LIMIT }

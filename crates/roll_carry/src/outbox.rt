@@ -67,7 +67,8 @@ impl Lane {
     fn place_for(&self, parcel: &Parcel) -> Option<usize>
         requires { length parcel.now.tail.now ≤ TAIL_LIMIT }
         ensures place { result ≡ place_for self.now (parcel_value parcel.now) }
-        ensures room { IfSome result (λ place. has_room self.now (parcel_value parcel.now) place ≡ true) }
+        ensures room { IfSome result (λ place. has_room self.now (parcel_value parcel.now) place ≡
+            true) }
     {
         (0..WAITING_LIMIT).find(|place| self.has_room(parcel, *place))
     }

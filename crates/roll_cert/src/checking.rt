@@ -50,7 +50,8 @@ impl Named {
     }
 
     fn insert(&mut self, entry: Differ)
-        ensures { (entries : List Differ) → IsNoted self.old.first entries → IsNoted self.new.first (entries ++ entry ∷ []) }
+        ensures { (entries : List Differ) → IsNoted self.old.first entries → IsNoted self.new.first
+            (entries ++ entry ∷ []) }
     {
         let state = entry.state as usize;
         if state < TREE_LIMIT {
@@ -83,7 +84,8 @@ fn have_cells(rows: &[Row], players: u8) -> bool
 }
 
 fn are_shaped(paths: &[Path], base: u32, players: u8) -> bool
-    ensures { IsTrue result ↔ All (λ path. (path.base ≡ base) × AreRowsOf players path.rows.items) paths.now }
+    ensures { IsTrue result ↔ All (λ path. (path.base ≡ base) × AreRowsOf players path.rows.items)
+        paths.now }
 {
     paths.iter().all(|path| path.base == base && have_cells(path.rows.as_slice(), players))
 }
@@ -177,7 +179,8 @@ fn check_entry(claim: &Claim, j: usize, named: &Named) -> Result<(), Flaw>
     requires shaped { IsShaped claim.now }
     requires within { j < length claim.now.differs }
     requires named { IsNoted named.now.first (take j claim.now.differs) }
-    ensures good { OnOk result ((entry : Differ) → slice_get claim.now.differs j ≡ Some entry → IsGood claim.now j entry) }
+    ensures good { OnOk result ((entry : Differ) → slice_get claim.now.differs j ≡ Some entry
+        → IsGood claim.now j entry) }
     ensures flaw { IfErr result (IsFlawOf claim.now j) }
 {
     let entry = entry_at(claim, j);
@@ -201,7 +204,8 @@ fn check_entries(claim: &Claim) -> Result<Named, Flaw>
     requires { IsShaped claim.now }
     ensures named { IfOk result (λ named. IsNoted named.first claim.now.differs) }
     ensures good { OnOk result (AreGood claim.now (length claim.now.differs)) }
-    ensures flaw { IfErr result (λ flaw. (j : ℕ) × AreGood claim.now j × IsFlawOf claim.now j flaw) }
+    ensures flaw { IfErr result (λ flaw. (j : ℕ) × AreGood claim.now j
+        × IsFlawOf claim.now j flaw) }
 {
     let mut named = Named::new();
     for j in 0..claim.differs.len() {

@@ -35,7 +35,8 @@ impl<'a> Lines<'a> {
     /// Takes a line, without its end.
     pub fn take(&mut self) -> Result<&'a [u8], Refusal>
         ensures line { IfOk result (λ line. Lacks 10 line.now) }
-        ensures rest { IfOk result (λ line. self.old.rest.now ≡ ended line.now ++ self.new.rest.now) }
+        ensures rest { IfOk result (λ line. self.old.rest.now ≡ ended line.now
+            ++ self.new.rest.now) }
         ensures next { OnOk result (self.new.next ≡ self.old.next + 1) }
         ensures none { IfErr result (λ why. Lacks 10 self.old.rest.now) }
         ensures err { IfErr result (λ why. why ≡ Unreadable self.old.next) }
@@ -53,9 +54,11 @@ impl<'a> Lines<'a> {
     /// Takes a line with a name and, after it, a number from `least` to `most`.
     pub fn number(&mut self, name: &[u8], least: u32, most: u32) -> Result<u32, Refusal>
         requires { list_any (λ b. b == 10) name.now ≡ false }
-        ensures ok { IfOk result (λ n. StartsWith (IsWithin least most) (named name.now) self.old.rest.now self.new.rest.now n) }
+        ensures ok { IfOk result (λ n. StartsWith (IsWithin least most) (named name.now)
+            self.old.rest.now self.new.rest.now n) }
         ensures next { OnOk result (self.new.next ≡ self.old.next + 1) }
-        ensures err { IfErr result (λ why. IsWrong (IsWithin least most) (named name.now) self.old.next self.old.rest.now why) }
+        ensures err { IfErr result (λ why. IsWrong (IsWithin least most) (named name.now)
+            self.old.next self.old.rest.now why) }
     {
         let next = self.next;
         let line = self.take()?;
@@ -65,7 +68,8 @@ impl<'a> Lines<'a> {
     /// Refuses the line that comes next, if something is left.
     pub fn end(&self) -> Result<(), Refusal>
         ensures ok { OnOk result (length self.now.rest.now ≡ 0) }
-        ensures err { IfErr result (λ why. (why ≡ Unreadable self.now.next) × (1 ≤ length self.now.rest.now)) }
+        ensures err { IfErr result (λ why. (why ≡ Unreadable self.now.next)
+            × (1 ≤ length self.now.rest.now)) }
     {
         if self.rest.is_empty() {
             Ok(())

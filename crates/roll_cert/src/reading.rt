@@ -16,11 +16,17 @@ use roll_text::TEXT_LIMIT;
 use std::alloc::Global;
 
 /// The claim that a text spells. A text that is too long is unreadable at line 0.
+///
+/// # Errors
+///
+/// `Unreadable` with the first line that no claim's text with the same lines before it has, or with 0 if the text is
+/// over 1,048,576 bytes; `NoMemory` if the allocator has no room.
 pub fn read(alloc: Global, text: &[u8]) -> Result<Claim, Refusal>
     ensures sized { IfOk result (λ claim. IsSized claim) }
     ensures claim { IfOk result (λ claim. text.now ≡ text_of (claim_lines claim)) }
     ensures refused { IfErr result (λ why. (why ≡ NoMemory) ⊎ IsUnreadable why text.now) }
-    ensures again { (claim : Claim) → IsSized claim → text.now ≡ text_of (claim_lines claim) → IfOk result (λ read. read ≡ claim) }
+    ensures again { (claim : Claim) → IsSized claim → text.now ≡ text_of (claim_lines claim)
+        → IfOk result (λ read. read ≡ claim) }
     ensures readable { IsClaimText text.now → IfErr result (λ why. why ≡ NoMemory) }
 {
     if text.len() > TEXT_LIMIT {
@@ -64,8 +70,10 @@ struct Heading {
 
 fn read_heading(lines: &mut Lines) -> Result<Heading, Refusal>
     requires { lines.old.next ≡ 1 }
-    ensures sized { IfOk result (λ heading. (1 ≤ heading.players) × (heading.players ≤ PLAYER_LIMIT) × (heading.base ≤ FRAME_LIMIT) × IsWord heading.from) }
-    ensures ok { IfOk result (λ heading. lines.old.rest.now ≡ text_of (heading_lines heading.players heading.base heading.from) ++ lines.new.rest.now) }
+    ensures sized { IfOk result (λ heading. (1 ≤ heading.players) × (heading.players ≤ PLAYER_LIMIT)
+        × (heading.base ≤ FRAME_LIMIT) × IsWord heading.from) }
+    ensures ok { IfOk result (λ heading. lines.old.rest.now ≡ text_of
+        (heading_lines heading.players heading.base heading.from) ++ lines.new.rest.now) }
     ensures next { OnOk result (lines.new.next ≡ lines.old.next + 4) }
     ensures err { IfErr result (λ why. IsUnreadable why lines.old.rest.now) }
 {
@@ -97,9 +105,11 @@ fn most_players(version: u32) -> u32
 fn read_rows(alloc: Global, lines: &mut Lines, count: u32, players: u8) -> Result<Vec<Row>, Refusal>
     requires some { 1 ≤ players }
     requires few { players ≤ PLAYER_LIMIT }
-    ensures ok { IfOk result (λ rows. StartsWithAll (IsRowOf players) row_line count lines.old.rest.now lines.new.rest.now rows.items) }
+    ensures ok { IfOk result (λ rows. StartsWithAll (IsRowOf players) row_line count
+        lines.old.rest.now lines.new.rest.now rows.items) }
     ensures next { OnOk result (lines.new.next ≡ lines.old.next + count) }
-    ensures err { IfErr result (λ why. (why ≡ NoMemory) ⊎ IsWrongAmong (IsRowOf players) row_line count lines.old.next lines.old.rest.now why) }
+    ensures err { IfErr result (λ why. (why ≡ NoMemory) ⊎ IsWrongAmong (IsRowOf players) row_line
+        count lines.old.next lines.old.rest.now why) }
 {
     let mut rows = Vec::new(alloc);
     for _ in 0..count {
@@ -111,9 +121,11 @@ fn read_rows(alloc: Global, lines: &mut Lines, count: u32, players: u8) -> Resul
 fn next_row(alloc: Global, lines: &mut Lines, players: u8) -> Result<Row, Refusal>
     requires some { 1 ≤ players }
     requires few { players ≤ PLAYER_LIMIT }
-    ensures ok { IfOk result (λ row. StartsWith (IsRowOf players) row_line lines.old.rest.now lines.new.rest.now row) }
+    ensures ok { IfOk result (λ row. StartsWith (IsRowOf players) row_line lines.old.rest.now
+        lines.new.rest.now row) }
     ensures next { OnOk result (lines.new.next ≡ lines.old.next + 1) }
-    ensures err { IfErr result (λ why. (why ≡ NoMemory) ⊎ IsWrong (IsRowOf players) row_line lines.old.next lines.old.rest.now why) }
+    ensures err { IfErr result (λ why. (why ≡ NoMemory) ⊎ IsWrong (IsRowOf players) row_line
+        lines.old.next lines.old.rest.now why) }
 {
     let next = lines.next;
     let line = lines.take()?;
@@ -129,9 +141,11 @@ fn read_paths(
 ) -> Result<Vec<Path>, Refusal>
     requires some { 1 ≤ players }
     requires few { players ≤ PLAYER_LIMIT }
-    ensures ok { IfOk result (λ paths. StartsWithAll (IsPathOf players base) path_line count lines.old.rest.now lines.new.rest.now paths.items) }
+    ensures ok { IfOk result (λ paths. StartsWithAll (IsPathOf players base) path_line count
+        lines.old.rest.now lines.new.rest.now paths.items) }
     ensures next { OnOk result (lines.new.next ≡ lines.old.next + count) }
-    ensures err { IfErr result (λ why. (why ≡ NoMemory) ⊎ IsWrongAmong (IsPathOf players base) path_line count lines.old.next lines.old.rest.now why) }
+    ensures err { IfErr result (λ why. (why ≡ NoMemory) ⊎ IsWrongAmong (IsPathOf players base)
+        path_line count lines.old.next lines.old.rest.now why) }
 {
     let mut paths = Vec::new(alloc);
     for _ in 0..count {
@@ -143,9 +157,11 @@ fn read_paths(
 fn next_path(alloc: Global, lines: &mut Lines, players: u8, base: u32) -> Result<Path, Refusal>
     requires some { 1 ≤ players }
     requires few { players ≤ PLAYER_LIMIT }
-    ensures ok { IfOk result (λ path. StartsWith (IsPathOf players base) path_line lines.old.rest.now lines.new.rest.now path) }
+    ensures ok { IfOk result (λ path. StartsWith (IsPathOf players base) path_line
+        lines.old.rest.now lines.new.rest.now path) }
     ensures next { OnOk result (lines.new.next ≡ lines.old.next + 1) }
-    ensures err { IfErr result (λ why. (why ≡ NoMemory) ⊎ IsWrong (IsPathOf players base) path_line lines.old.next lines.old.rest.now why) }
+    ensures err { IfErr result (λ why. (why ≡ NoMemory) ⊎ IsWrong (IsPathOf players base) path_line
+        lines.old.next lines.old.rest.now why) }
 {
     let next = lines.next;
     let line = lines.take()?;
@@ -153,9 +169,11 @@ fn next_path(alloc: Global, lines: &mut Lines, players: u8, base: u32) -> Result
 }
 
 fn read_entries(alloc: Global, lines: &mut Lines, count: u32) -> Result<Vec<Differ>, Refusal>
-    ensures ok { IfOk result (λ entries. StartsWithAll IsEntry entry_line count lines.old.rest.now lines.new.rest.now entries.items) }
+    ensures ok { IfOk result (λ entries. StartsWithAll IsEntry entry_line count lines.old.rest.now
+        lines.new.rest.now entries.items) }
     ensures next { OnOk result (lines.new.next ≡ lines.old.next + count) }
-    ensures err { IfErr result (λ why. (why ≡ NoMemory) ⊎ IsWrongAmong IsEntry entry_line count lines.old.next lines.old.rest.now why) }
+    ensures err { IfErr result (λ why. (why ≡ NoMemory) ⊎ IsWrongAmong IsEntry entry_line count
+        lines.old.next lines.old.rest.now why) }
 {
     let mut entries = Vec::new(alloc);
     for _ in 0..count {
@@ -165,9 +183,11 @@ fn read_entries(alloc: Global, lines: &mut Lines, count: u32) -> Result<Vec<Diff
 }
 
 fn next_entry(alloc: Global, lines: &mut Lines) -> Result<Differ, Refusal>
-    ensures ok { IfOk result (λ entry. StartsWith IsEntry entry_line lines.old.rest.now lines.new.rest.now entry) }
+    ensures ok { IfOk result (λ entry. StartsWith IsEntry entry_line lines.old.rest.now
+        lines.new.rest.now entry) }
     ensures next { OnOk result (lines.new.next ≡ lines.old.next + 1) }
-    ensures err { IfErr result (λ why. (why ≡ NoMemory) ⊎ IsWrong IsEntry entry_line lines.old.next lines.old.rest.now why) }
+    ensures err { IfErr result (λ why. (why ≡ NoMemory) ⊎ IsWrong IsEntry entry_line lines.old.next
+        lines.old.rest.now why) }
 {
     let next = lines.next;
     let line = lines.take()?;

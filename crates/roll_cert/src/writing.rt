@@ -8,7 +8,7 @@ use roll_frame::{Cell, Claim, Differ, Path, Row};
 use roll_text::push_number;
 use std::alloc::{AllocError, Global};
 
-/// The text of a claim.
+/// The text of a claim, whatever its sizes. `read` reads it if these are within the limits (`IsSized`).
 pub fn write(alloc: Global, claim: &Claim) -> Result<Vec<u8>, AllocError>
     ensures { IfOk result (λ text. text.items ≡ text_of (claim_lines claim.now)) }
 {
@@ -42,7 +42,8 @@ fn push_named(out: &mut Vec<u8>, name: &[u8], n: usize) -> Result<(), AllocError
 
 /// Writes how many rows there are, and a line for each.
 fn push_rows(out: &mut Vec<u8>, rows: &[Row]) -> Result<(), AllocError>
-    ensures { OnOk result (out.new.items ≡ out.old.items ++ text_of (section (codes "time ") row_line rows.now)) }
+    ensures { OnOk result (out.new.items ≡ out.old.items
+        ++ text_of (section (codes "time ") row_line rows.now)) }
 {
     push_named(out, b"time ", rows.len())?;
     for row in rows {
@@ -54,7 +55,8 @@ fn push_rows(out: &mut Vec<u8>, rows: &[Row]) -> Result<(), AllocError>
 
 /// Writes how many paths there are, and a line for each.
 fn push_paths(out: &mut Vec<u8>, paths: &[Path]) -> Result<(), AllocError>
-    ensures { OnOk result (out.new.items ≡ out.old.items ++ text_of (section (codes "kept ") path_line paths.now)) }
+    ensures { OnOk result (out.new.items ≡ out.old.items
+        ++ text_of (section (codes "kept ") path_line paths.now)) }
 {
     push_named(out, b"kept ", paths.len())?;
     for path in paths {
@@ -66,7 +68,8 @@ fn push_paths(out: &mut Vec<u8>, paths: &[Path]) -> Result<(), AllocError>
 
 /// Writes how many entries there are, and a line for each.
 fn push_entries(out: &mut Vec<u8>, entries: &[Differ]) -> Result<(), AllocError>
-    ensures { OnOk result (out.new.items ≡ out.old.items ++ text_of (section (codes "differs ") entry_line entries.now)) }
+    ensures { OnOk result (out.new.items ≡ out.old.items
+        ++ text_of (section (codes "differs ") entry_line entries.now)) }
 {
     push_named(out, b"differs ", entries.len())?;
     for entry in entries {

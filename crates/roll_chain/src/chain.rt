@@ -49,7 +49,8 @@ impl Chain {
         &self.terms
     }
 
-    /// With which settings the network of this epoch opens.
+    /// With which settings the network of this epoch opens. Their digest has the number of comers in it, a player whom
+    /// nobody owns is of a machine that is absent, and marks are taken.
     pub fn settings(&self) -> MatchSettings
         ensures { result ≡ settings_in self.now self.now.terms }
     {

@@ -94,7 +94,8 @@ impl Chain {
     /// How the epoch ended, if it is over for this machine: its session has come up to the end.
     pub fn over<S: Networked>(&self, peer: &Peer, session: &S) -> Option<Ending>
         ensures over { IfSome result (IsOver (S.seen session.now) self.now peer.now) }
-        ensures not { IfNone result ((e : Ending) → IsOver (S.seen session.now) self.now peer.now e → ⊥) }
+        ensures not { IfNone result ((e : Ending) → IsOver (S.seen session.now) self.now peer.now e
+            → ⊥) }
     {
         let ending = self.end(peer)?;
         if session.frame() < ending.frame {

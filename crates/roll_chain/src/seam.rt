@@ -41,9 +41,11 @@ pub struct Opening {
 impl Chain {
     /// How the next epoch opens, if this one is over for this machine.
     pub fn opening<S: Networked>(&self, peer: &Peer, session: &S) -> Option<Opening>
-        ensures opens { IfSome result (λ opening. (e : Ending) × IsOver (S.seen session.now) self.now peer.now e
-            × (opening ≡ opening_after (S.seen session.now) self.now peer.now e)) }
-        ensures not { IfNone result ((e : Ending) → IsOver (S.seen session.now) self.now peer.now e → ⊥) }
+        ensures opens { IfSome result (λ opening. (e : Ending) × IsOver (S.seen session.now)
+            self.now peer.now e × (opening ≡ opening_after (S.seen session.now) self.now peer.now
+            e)) }
+        ensures not { IfNone result ((e : Ending) → IsOver (S.seen session.now) self.now peer.now e
+            → ⊥) }
     {
         session.laws();
         let ending = self.over(peer, session)?;
@@ -78,13 +80,14 @@ impl Chain {
         session: &S,
         opening: &Opening,
     ) -> Result<Peer, OpenRefusal>
-        ensures followed { OnOk result (IsFollowedAs (S.seen session.now) (settings_in self.old opening.now.terms)
-            peer.old opening.now.seating peer.new) }
+        ensures followed { OnOk result (IsFollowedAs (S.seen session.now)
+            (settings_in self.old opening.now.terms) peer.old opening.now.seating peer.new) }
         ensures past { IfOk result (λ past. past ≡ peer.old) }
         ensures chain { OnOk result (self.new ≡ followed_by self.old opening.now) }
         ensures accepted { OnOk result (join_refusal (S.seen session.now)
             (seat_of (settings_in self.old opening.now.terms)) ≡ None) }
-        ensures refused { IfErr result (IsWhyNot (S.seen session.now) (settings_in self.old opening.now.terms)) }
+        ensures refused { IfErr result
+            (IsWhyNot (S.seen session.now) (settings_in self.old opening.now.terms)) }
         ensures unchanged { OnErr result (self.new ≡ self.old) }
         ensures peer { OnErr result (peer.new ≡ peer.old) }
     {
@@ -132,7 +135,8 @@ fn local_bits(owners: &[u8; PLAYER_LIMIT], me: u8) -> u8
 
 /// Four bits as a number, the lowest first.
 fn four_bits(a: bool, b: bool, c: bool, d: bool) -> u8
-    ensures number { result ≡ from_bool a + 2 * (from_bool b + 2 * (from_bool c + 2 * from_bool d)) }
+    ensures number { result ≡ from_bool a + 2 *
+        (from_bool b + 2 * (from_bool c + 2 * from_bool d)) }
     ensures below { result < 16 }
 {
     u8::from(a) + 2 * (u8::from(b) + 2 * (u8::from(c) + 2 * u8::from(d)))

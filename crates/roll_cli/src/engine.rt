@@ -32,6 +32,10 @@ const REPLIES: usize = 5;
 /// game starts at `opening`; `helper`, a second game of its kind, runs the jobs that guesses give. If the helper refuses,
 /// the script ends as one for which there is no memory.
 ///
+/// The replies are those of a session's rules, and of guesses and branches too. If the session starts, the headline
+/// holds of the events that the commands ask for, and the lines of these are told of its turns, also if the writer cut
+/// them short.
+///
 /// At most 1,048,577 bytes are read. Nothing is written unless the whole script can be read, and then all in large
 /// pieces at the end. If the session doesn't start, its refusal is all that is written, and counts as one.
 ///

@@ -1,4 +1,8 @@
 //! The engines behind the program: scripts that are played, claims that are checked, and what is written of them.
+//!
+//! What the clause `plays` says of an engine's text and output, it says of a reader and a writer that tell their bytes
+//! (`roll_text`). When a reader or a writer fails no clause says: that a fault of the one is `Read`, and of the other
+//! `Write`, is tested at each read and write (`tests/runs/streams.t`).
 #![tactic(auto)]
 
 mod certificate;

@@ -25,7 +25,11 @@ use std::alloc::{AllocError, Global};
 use std::io::{Read, Write};
 
 /// Tests a game with the rows that a reader holds, so many frames at once (1 to 8), and answers whether none came out
-/// different. A line is written for each row, up to the first frame that did.
+/// different. A line is written for each row, up to the first frame that did: `verified` with each row whose number is
+/// a multiple of `frames`, else `run`; and at a difference `mismatch` with its frame.
+///
+/// If all is well, no clause says how often the game was run, nor from which opening: tests count its loads, saves and
+/// advances (`tests/runs/sync_games.t`).
 ///
 /// At most 1,048,577 bytes are read. Nothing is written unless all rows can be read, and then all at the end. If the test
 /// doesn't start, its refusal is all that is written. A `Game` comes out different nowhere (`never_diverges`).

@@ -158,7 +158,9 @@ impl Contact {
         }
     }
 
-    /// A hello was heard, which differs in a field or means the same match.
+    /// A hello was heard, which differs in a field or means the same match. Only one that says this opening's draw is
+    /// believed, or told as a restart. Once it is believed, what both ends said decides whether they carry for each
+    /// other, and how long they wait in a silence.
     #[tactic(auto, unfolding(crate::specs::Contacts::after_hello))]
     pub fn hello(&mut self, own: &Opening, mismatch: Option<Field>, hello: &Hello, now: u32)
         ensures { self.new ≡ after_hello own.now mismatch hello.now now self.old }

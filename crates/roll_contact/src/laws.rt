@@ -7,12 +7,14 @@ ghost use Rattle.roll_contact.specs.declared.key.TheConstants.{BLOCK};
 ghost use Rattle.roll_contact.specs.declared.seal.TheConstants.{INNER, OUTER};
 ghost use Rattle.roll_contact.specs.declared.terms.TheConstants.{CARRIES, LASTS};
 
-/// A draw is believed only by a hello that says this opening's own draw, and no other takes its place.
+/// A draw is believed only by a hello that says this opening's own draw and means the same match. No hello without that
+/// draw puts another in the place of the one that is believed, or is told as a restart.
 pub fn only_an_echo_is_believed()
     ensures { OnlyAnEchoIsBelieved }
 {}
 
-/// Datagrams whose clocks came back before end no silence, however many of them come.
+/// Once a play was heard, plays whose clocks came back before end no silence, however many of them come and in whatever
+/// order. Before that an end isn't silent.
 pub fn copies_end_no_silence()
     ensures { CopiesEndNoSilence }
 {}

@@ -27,7 +27,10 @@ pub(crate) fn run_ships(
     requires few_bullets { length bullets.old.items ≤ 32 }
     requires ships_in { All IsShip ships.old.items }
     requires bullets_in { All IsBullet bullets.old.items }
-    ensures value { OnOk result (after_ships row.now 0 ships.old.items bullets.old.items ≡ record { ships = ships.new.items; bullets = bullets.new.items }) }
+    ensures value { OnOk result (after_ships row.now 0 ships.old.items bullets.old.items ≡ record {
+      ships = ships.new.items;
+      bullets = bullets.new.items;
+    }) }
     ensures as_many { length ships.new.items ≡ length ships.old.items }
     ensures still_few { length bullets.new.items ≤ 32 }
     ensures ships_still_in { All IsShip ships.new.items }
@@ -58,7 +61,8 @@ fn run_ship(
     requires ship_in { IsShip ship.old }
     requires bullets_in { All IsBullet bullets.old.items }
     ensures ship { OnOk result (ship.new ≡ ship_after pad bullets.old.items ship.old) }
-    ensures bullets { OnOk result (bullets.new.items ≡ bullets_after pad number ship.old bullets.old.items) }
+    ensures bullets { OnOk result (bullets.new.items ≡ bullets_after pad number ship.old
+        bullets.old.items) }
     ensures still_few { length bullets.new.items ≤ 32 }
     ensures ship_still_in { IsShip ship.new }
     ensures bullets_still_in { All IsBullet bullets.new.items }
@@ -88,7 +92,8 @@ pub(crate) fn land_bullets(ships: &mut Vec<Ship>, bullets: &mut Vec<Bullet>)
     requires ships_in { All IsShip ships.old.items }
     requires few { length ships.old.items ≤ 4 }
     requires bullets_in { All IsBullet bullets.old.items }
-    ensures ships { ships.new.items ≡ fold (λ ships bullet. struck bullet 1 ships) ships.old.items bullets.old.items }
+    ensures ships { ships.new.items ≡ fold (λ ships bullet. struck bullet 1 ships) ships.old.items
+        bullets.old.items }
     ensures bullets { bullets.new.items ≡ filter (remains ships.old.items) bullets.old.items }
     ensures as_many { length ships.new.items ≡ length ships.old.items }
     ensures ships_still_in { All IsShip ships.new.items }

@@ -29,7 +29,8 @@ fn push_duel(out: &mut Vec<u8>, state: &State) -> Result<(), AllocError>
 
 /// Writes ships, with a space after each.
 fn push_ships(out: &mut Vec<u8>, ships: &[Ship]) -> Result<(), AllocError>
-    ensures { OnOk result (out.new.items ≡ out.old.items ++ flat_map (λ ship. ship_text ship ++ codes " ") ships.now) }
+    ensures { OnOk result (out.new.items ≡ out.old.items ++ flat_map (λ ship. ship_text ship
+        ++ codes " ") ships.now) }
 {
     for ship in ships {
         push_ship(out, ship)?;

@@ -6,7 +6,8 @@ pub fn ends_are_one()
     ensures { EndsAreOne }
 {}
 
-/// Who knows the same of the rows before a frame finds the same end there, once as many rows are settled.
+/// Who knows the same marks of the rows before a frame, of players who hadn't left there, finds the same end, once as
+/// many rows are settled.
 pub fn of_one_past_one_end()
     ensures { OfOnePastOneEnd }
 {}
@@ -16,12 +17,14 @@ pub fn ends_stay()
     ensures { EndsStay }
 {}
 
-/// Who knows the same of where players left before the end opens the same next epoch.
+/// Who knows the same of where players left before the end opens the same next epoch. A player who left later is as one
+/// who hasn't left.
 pub fn of_one_past_one_next()
     ensures { OfOnePastOneNext }
 {}
 
-/// A machine that stays keeps its players and its number; whoever comes has a number that nobody has who stays, and no player of them.
+/// A machine that stays keeps its players and its number; whoever comes has the lowest number that nobody has who
+/// stays, and no player of them. Each other player of the match becomes free, or is owned by whoever comes.
 pub fn nobody_loses_a_player()
     ensures { NobodyLosesAPlayer }
 {}

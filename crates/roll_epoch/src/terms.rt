@@ -14,7 +14,8 @@ use roll_wire::Mark;
 /// there.
 #[derive(Clone, Copy, Debug)]
 pub struct Terms {
-    /// Which epoch it is: 0 is the first one.
+    /// Which epoch it is: 0 is the first one. The numbers of the others come of SHA-256: that no two are the same is
+    /// presumed.
     pub id: u64,
     /// How many frames of the match came before its first one, modulo 2^64.
     pub base: u64,

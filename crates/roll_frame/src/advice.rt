@@ -11,7 +11,8 @@ use std::marker::Model;
 
 /// The advantages that a session noted last, and what they advise.
 ///
-/// A side's advantage is how many frames it is behind the other side, as in GGPO: negative where it is ahead.
+/// A side's advantage is how many frames it is behind the other side, as in GGPO: negative where it is ahead. The last
+/// 40 pairs count, each advantage by 120 frames at most in either direction. Only `new` takes memory.
 #[derive(Debug, Drop)]
 pub struct Advice {
     pairs: HeapCircularBuffer<(i32, i32)>,
@@ -51,6 +52,9 @@ impl Advice {
     }
 
     /// How many frames the local side should wait: 0, or 3 to 9.
+    ///
+    /// That is half of what the remote side's advantages are above the local side's, on average over the pairs, to the
+    /// nearest number, halves up. A wait below 3 counts as none, and one above 9 as 9.
     pub fn frames_ahead(&self) -> u32
         ensures { result ≡ advice_of self.now }
     {
@@ -78,7 +82,8 @@ impl Advice {
     fn sums(&self) -> (i32, i32)
         ensures local { result.0 ≡ local_sum self.now }
         ensures remote { result.1 ≡ remote_sum self.now }
-        ensures bounds { let most = ADVANTAGE_LIMIT *ℤ pos (length self.now) in IsWithin most result.0 × IsWithin most result.1 }
+        ensures bounds { let most = ADVANTAGE_LIMIT *ℤ pos (length self.now) in IsWithin most
+            result.0 × IsWithin most result.1 }
     {
         let mut local_sum = 0;
         let mut remote_sum = 0;

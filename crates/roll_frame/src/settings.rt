@@ -48,7 +48,8 @@ impl Settings {
     /// in the list that is 0 or over the number of players.
     pub fn new(players: u8, local: &[u8]) -> Result<Settings, SettingsFault>
         ensures settings { IfOk result (λ s. s ≡ plain_settings players s.local) }
-        ensures local { IfOk result (λ s. (place : ℕ) → place < PLAYER_LIMIT → is_local s place ≡ list_any (λ p. p == place + 1) local.now) }
+        ensures local { IfOk result (λ s. (place : ℕ) → place < PLAYER_LIMIT
+            → is_local s place ≡ list_any (λ p. p == place + 1) local.now) }
         ensures starts { IfOk result (λ s. start_refusal s ≡ None) }
         ensures fine { OnOk result (local_fault players local.now ≡ None) }
         ensures fault { IfErr result (λ why. local_fault players local.now ≡ Some why) }
@@ -80,7 +81,10 @@ impl Settings {
     ///
     /// `NoPlayer` where there is no such player.
     pub fn with_delay(self, player: u8, frames: u32) -> Result<Settings, SettingsFault>
-        ensures { result ≡ (if has_player self player then checked (record self { delays = slice_set self.delays (player - 1) frames }) else Err (SettingsFault.NoPlayer player)) }
+        ensures { result ≡ (if has_player self player then checked (record self {
+          delays = slice_set self.delays (player - 1) frames;
+        })
+            else Err (SettingsFault.NoPlayer player)) }
     {
         if !self.has_player(player) {
             return Err(SettingsFault::NoPlayer { player });
@@ -96,7 +100,10 @@ impl Settings {
     ///
     /// `NoPlayer` where there is no such player.
     pub fn with_mask(self, player: u8, bits: u32) -> Result<Settings, SettingsFault>
-        ensures { result ≡ (if has_player self player then checked (record self { masks = slice_set self.masks (player - 1) bits }) else Err (SettingsFault.NoPlayer player)) }
+        ensures { result ≡ (if has_player self player then checked (record self {
+          masks = slice_set self.masks (player - 1) bits;
+        })
+            else Err (SettingsFault.NoPlayer player)) }
     {
         if !self.has_player(player) {
             return Err(SettingsFault::NoPlayer { player });
@@ -230,7 +237,8 @@ impl Settings {
 
     fn long_delay(&self) -> Option<u8>
         requires { self.now.players ≤ PLAYER_LIMIT }
-        ensures { result ≡ player_who (λ place. nat_lt DELAY_LIMIT (delay_at self.now place)) (places self.now) }
+        ensures { result ≡ player_who (λ place. nat_lt DELAY_LIMIT (delay_at self.now place))
+            (places self.now) }
     {
         for place in 0..self.players {
             if DELAY_LIMIT < self.delays[usize::from(place)] {
@@ -242,7 +250,8 @@ impl Settings {
 
     fn remote_delay(&self) -> Option<u8>
         requires { self.now.players ≤ PLAYER_LIMIT }
-        ensures { result ≡ player_who (λ place. not (is_local self.now place) && nat_lt 0 (delay_at self.now place)) (places self.now) }
+        ensures { result ≡ player_who (λ place. not (is_local self.now place) && nat_lt 0
+            (delay_at self.now place)) (places self.now) }
     {
         for place in 0..self.players {
             if self.is_remote_delayed(place) {
@@ -301,10 +310,12 @@ fn plain(players: u8, local: u8) -> Settings
 /// The bits of these players, each one of so many.
 fn local_bits(players: u8, local: &[u8]) -> Result<u8, SettingsFault>
     requires { players ≤ PLAYER_LIMIT }
-    ensures bits { IfOk result (λ bits. (place : ℕ) → place < PLAYER_LIMIT → (bit_at bits place == 1) ≡ list_any (λ p. p == place + 1) local.now) }
+    ensures bits { IfOk result (λ bits. (place : ℕ) → place < PLAYER_LIMIT
+        → (bit_at bits place == 1) ≡ list_any (λ p. p == place + 1) local.now) }
     ensures small { IfOk result (λ bits. bits < 2 ^ players) }
     ensures inside { OnOk result (outside players local.now ≡ None) }
-    ensures outside { IfErr result (λ why. option_map SettingsFault.LocalPlayerOutside (outside players local.now) ≡ Some why) }
+    ensures outside { IfErr result (λ why. option_map SettingsFault.LocalPlayerOutside
+        (outside players local.now) ≡ Some why) }
 {
     let mut bits = 0;
     for player in local {

@@ -51,22 +51,26 @@ pub trait RawGame {
     /// The state that was saved.
     fn load(&mut self, snapshot: &Self::Snapshot) -> Result<Self::State, NoMemory>
         ensures value { IfOk result (λ state. state_value state ≡ snapshot_value snapshot.now) }
-        ensures counts { call_counts self.new ≡ counted Call.Load (is_ok result) (call_counts self.old) };
+        ensures counts { call_counts self.new ≡ counted Call.Load (is_ok result)
+            (call_counts self.old) };
 
     /// Saves a state, which stays as it is.
     fn save(&mut self, state: &Self::State) -> Result<Self::Snapshot, NoMemory>
         ensures value { IfOk result (λ snapshot. snapshot_value snapshot ≡ state_value state.now) }
-        ensures counts { call_counts self.new ≡ counted Call.Save (is_ok result) (call_counts self.old) };
+        ensures counts { call_counts self.new ≡ counted Call.Save (is_ok result)
+            (call_counts self.old) };
 
     /// A second snapshot of the same state.
     fn copy(&mut self, snapshot: &Self::Snapshot) -> Result<Self::Snapshot, NoMemory>
         ensures value { IfOk result (λ copy. snapshot_value copy ≡ snapshot_value snapshot.now) }
-        ensures counts { call_counts self.new ≡ counted Call.Copy (is_ok result) (call_counts self.old) };
+        ensures counts { call_counts self.new ≡ counted Call.Copy (is_ok result)
+            (call_counts self.old) };
 
     /// Advances the state by one frame. What a refused call leaves in the state is open.
     fn advance(&mut self, state: &mut Self::State, row: &Row) -> Result<(), NoMemory>
         ensures ran { OnOk result (ran (state_value state.old) row.now (state_value state.new)) }
-        ensures counts { call_counts self.new ≡ counted Call.Advance (is_ok result) (call_counts self.old) };
+        ensures counts { call_counts self.new ≡ counted Call.Advance (is_ok result)
+            (call_counts self.old) };
 
     /// Whether two snapshots are worth the same.
     fn same(&self, a: &Self::Snapshot, b: &Self::Snapshot) -> bool

@@ -9,6 +9,9 @@ use roll_frame::Row;
 use std::marker::Model;
 
 /// A game of which one call is refused, and the others are passed on.
+///
+/// The refused call doesn't reach the game, but `counts` counts it. Each other call is asked of the game once, and
+/// brings no further call with it.
 #[derive(Debug, Drop)]
 pub struct Refusing<R> {
     game: R,
@@ -110,7 +113,8 @@ impl<R: RawGame> RawGame for Refusing<R> {
     }
 
     fn save(&mut self, state: &R::State) -> Result<R::Snapshot, NoMemory>
-        ensures value { IfOk result (λ snapshot. R.snapshot_value snapshot ≡ R.state_value state.now) }
+        ensures value { IfOk result (λ snapshot. R.snapshot_value snapshot ≡ R.state_value
+            state.now) }
         ensures counts { let counts = counts_of R.call_counts in
             counts self.new ≡ counted Call.Save (is_ok result) (counts self.old) }
         ensures call { TakesCall R.call_counts Call.Save self.old self.new (is_ok result) }
@@ -120,7 +124,8 @@ impl<R: RawGame> RawGame for Refusing<R> {
     }
 
     fn copy(&mut self, snapshot: &R::Snapshot) -> Result<R::Snapshot, NoMemory>
-        ensures value { IfOk result (λ copy. R.snapshot_value copy ≡ R.snapshot_value snapshot.now) }
+        ensures value { IfOk result (λ copy. R.snapshot_value copy ≡ R.snapshot_value
+            snapshot.now) }
         ensures counts { let counts = counts_of R.call_counts in
             counts self.new ≡ counted Call.Copy (is_ok result) (counts self.old) }
         ensures call { TakesCall R.call_counts Call.Copy self.old self.new (is_ok result) }
@@ -130,7 +135,8 @@ impl<R: RawGame> RawGame for Refusing<R> {
     }
 
     fn advance(&mut self, state: &mut R::State, row: &Row) -> Result<(), NoMemory>
-        ensures ran { OnOk result (R.ran (R.state_value state.old) row.now (R.state_value state.new)) }
+        ensures ran { OnOk result (R.ran (R.state_value state.old) row.now
+            (R.state_value state.new)) }
         ensures counts { let counts = counts_of R.call_counts in
             counts self.new ≡ counted Call.Advance (is_ok result) (counts self.old) }
         ensures call { TakesCall R.call_counts Call.Advance self.old self.new (is_ok result) }

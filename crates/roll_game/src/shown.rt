@@ -13,7 +13,8 @@ pub trait Shown: Game {
 
     /// Writes the text of a state at the end.
     fn text(&self, state: &Self::State, out: &mut Vec<u8>) -> Result<(), NoMemory>
-        ensures { OnOk result (out.new.items ≡ out.old.items ++ text_of (Self.state_value state.now)) };
+        ensures { OnOk result (out.new.items ≡ out.old.items
+            ++ text_of (Self.state_value state.now)) };
 }
 
 impl Shown for Tally {

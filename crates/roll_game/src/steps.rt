@@ -13,9 +13,14 @@ pub fn advance_and_save<R: RawGame>(
     row: &Row,
 ) -> Result<R::Snapshot, NoMemory>
     ensures ran { OnOk result (R.ran (R.state_value state.old) row.now (R.state_value state.new)) }
-    ensures snapshot { IfOk result (λ snapshot. R.snapshot_value snapshot ≡ R.state_value state.new) }
-    ensures counts { OnOk result (R.call_counts game.new ≡ counted Save true (counted Advance true (R.call_counts game.old))) }
-    ensures refused { OnErr result ((R.call_counts game.new ≡ counted Advance false (R.call_counts game.old)) ⊎ (R.call_counts game.new ≡ counted Save false (counted Advance true (R.call_counts game.old)))) }
+    ensures snapshot { IfOk result (λ snapshot. R.snapshot_value snapshot ≡ R.state_value
+        state.new) }
+    ensures counts { OnOk result (R.call_counts game.new ≡ counted Save true
+        (counted Advance true (R.call_counts game.old))) }
+    ensures refused { OnErr result
+        ((R.call_counts game.new ≡ counted Advance false (R.call_counts game.old))
+        ⊎ (R.call_counts game.new ≡ counted Save false
+        (counted Advance true (R.call_counts game.old)))) }
 {
     game.advance(state, row)?;
     game.save(state)

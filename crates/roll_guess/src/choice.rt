@@ -41,15 +41,17 @@ pub(crate) fn view_of<G: Game>(session: &Session<G>, player: u8) -> Option<View>
 }
 
 impl Habits {
-    /// The guesses of a player's next words that are worth making now, best first: that its word is held for some frames
-    /// and then changes, and perhaps changes once more. None is left out for one that is worth less; what may follow a
-    /// first change is guessed of the 32 best. The session is to have taken all words that were noted.
+    /// The guesses of a player's next words that are worth making now, best first: that its word is held for some
+    /// frames and then changes to another known one, and perhaps changes once more, all within the frames that have no
+    /// word yet, 16 at most. None is left out for one that is worth less; what may follow a first change is guessed of
+    /// the 32 best. The session is to have taken all words that were noted.
     ///
     /// Make them in this order, until as many gave jobs as there is time for: one that gives none is kept already. Each is
     /// run a job's 8 rows past its change, so it gives its next job only 8 frames later, or once another player's word
     /// changes. Empty if no frame waits for a word of the player, or the session takes no guess of it.
     pub fn choose<G: Game>(&self, session: &Session<G>, player: u8) -> Ranking
-        ensures accepted { All (λ guess. guess_refusal_of session.now player guess.words.items guess.until ≡ None) result.items }
+        ensures accepted { All (λ guess. guess_refusal_of session.now player guess.words.items
+            guess.until ≡ None) result.items }
         ensures suits { let view = view_of session.now player in
             All (Suits (worth_of_words self.now view) view) result.items }
         ensures falling { IsFalling result.items }

@@ -172,7 +172,9 @@ impl Habits {
 
     /// Remembers a word, if it isn't known.
     pub(crate) fn know(&mut self, word: u32)
-        ensures { self.new ≡ record self.old { known = record { items = known_after self.old.known.items word } } }
+        ensures { self.new ≡ record self.old {
+          known = record { items = known_after self.old.known.items word };
+        } }
     {
         if !self.known.contains(&word) {
             slide_word(&mut self.known, word);
@@ -199,7 +201,7 @@ impl Habits {
         self.know(word);
     }
 
-    /// The chance that a word changes which was held for so many frames.
+    /// The chance that a word changes which was held for so many frames: like all chances a part of `CERTAIN`.
     pub fn turning(&self, age: u32) -> u32
         ensures { result ≡ turning_of self.now age }
     {

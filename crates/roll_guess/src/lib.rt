@@ -1,7 +1,7 @@
 //! Which guesses of a player's next words are worth making, by what was seen of the player in this match.
 //!
 //! A game notes each confirmed word of a player, and asks for the guesses that save the most frames. Nothing here takes
-//! memory.
+//! memory. How many frames they save was measured: `docs/MATCH.md`, "Which guesses".
 #![tactic(auto)]
 
 mod choice;

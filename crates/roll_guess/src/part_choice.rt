@@ -21,7 +21,8 @@ impl PartHabits {
     /// The guesses of a player's next words that are worth making now, best first: that its word is
     /// held for some frames and then one part of it changes to a known value, and perhaps one more
     /// in the same frame. None is left out for one that is worth less; a second part is changed in
-    /// the 32 best. The session is to have taken all words that were noted.
+    /// the 32 best. The session is to have taken all words that were noted. Make them as those of
+    /// `Habits::choose`.
     pub fn choose<G: Game>(&self, session: &Session<G>, player: u8) -> Ranking
         ensures accepted { All (λ guess.
             guess_refusal_of session.now player guess.words.items guess.until ≡ None) result.items }

@@ -94,7 +94,8 @@ impl PartHabits {
         }
     }
 
-    /// The chance that this word comes next, after the word that is held came some times more.
+    /// The chance that this word comes next, after the word that is held came some times more: that
+    /// all its parts do, each by itself.
     pub fn chance(&self, more: u32, word: u32) -> u32
         ensures { result ≡ chance_by_parts self.now.parts.items more word }
     {

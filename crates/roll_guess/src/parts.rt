@@ -44,6 +44,10 @@ pub struct WordParts {
 
 impl WordParts {
     /// The parts with these bits. Without any a word is one part, as a whole.
+    ///
+    /// # Errors
+    ///
+    /// What is wrong with the masks: one fault, if there are several.
     pub fn new(masks: &[u32]) -> Result<WordParts, PartsRefusal>
         ensures parts { IfOk result (λ parts.
             (parts.masks.items ≡ masks.now) × AreParts masks.now) }

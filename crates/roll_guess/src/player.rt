@@ -28,9 +28,10 @@ fn scored(score: u32, chance: u32) -> u32
 pub struct PlayerHabits {
     pub words: Habits,
     pub parts: PartHabits,
-    /// What whole words foresaw of the last changes, which fades.
+    /// What whole words foresaw of the last changes, which fades: of each change the chance that they
+    /// gave to the word that came, none if it wasn't known.
     pub of_words: u32,
-    /// And what parts did.
+    /// And what parts did: none if the word's value of a part wasn't known.
     pub of_parts: u32,
 }
 

@@ -24,6 +24,8 @@ pub(crate) type Waiting = ArrayVec<RemoteWord, HELD_LIMIT>;
 /// right. The session's program asks which wait, and hands them over once their frames are there.
 ///
 /// A program makes a `turn` of it in each turn of its main loop: so a word is held back for so many turns at most.
+/// Whatever comes meanwhile, either all words that wait are handed over, or each goes on to wait, and has waited for as
+/// long as before.
 #[derive(Debug, Drop)]
 pub struct Held {
     pub(crate) words: Waiting,
@@ -61,7 +63,8 @@ impl Held {
     pub fn is_pressed<S: Settling>(&self, session: &S) -> bool
         ensures pressed { result ≡ is_pressed (S.seen session.now) self.now.words.items }
         ensures refused { IsTrue result → RefusesNext (S.seen session.now) }
-        ensures taken { IsFalse result → (self.now.words.items ≡ []) ⊎ TakesNext (S.seen session.now) }
+        ensures taken { IsFalse result → (self.now.words.items ≡ [])
+            ⊎ TakesNext (S.seen session.now) }
     {
         !self.words.is_empty() && stands_next(session)
     }
@@ -115,7 +118,8 @@ impl Held {
             (record { seen = S.seen session.new; held = self.new })) }
         ensures handed { IfOk result (λ count. roomless (S.seen session.new)
             ≡ roomless (told (S.seen session.old) (take count self.old.words.items))) }
-        ensures rest { IfOk result (λ count. self.new.words.items ≡ drop count self.old.words.items) }
+        ensures rest { IfOk result
+            (λ count. self.new.words.items ≡ drop count self.old.words.items) }
         ensures waited { IfOk result (λ count. self.new.waited.items
             ≡ lessened count (after_turn (length self.old.words.items) self.old.waited.items)) }
         ensures turns { self.new.turns ≡ self.old.turns }

@@ -1,4 +1,7 @@
 //! Words of others that are held back from a session until another thread has run their frames.
+//!
+//! To the network the session is the one that has heard them. So what the calls of `roll_peer` and `roll_relay` promise
+//! holds of the calls here too, and so do the laws of machines that stay.
 #![tactic(auto)]
 
 mod fault;

@@ -19,6 +19,7 @@ use roll_wire::DATAGRAM_LIMIT;
 impl Held {
     /// Hears bytes that came by the network, as [`Peer::receive`] does and with what it says, but holds back the words of others:
     /// they wait here until they are handed over. To the network the session is one that has heard them, so they are acknowledged.
+    /// No clause says that a word does wait, since to the network it is the same; a test does (`tests/c/held.c`).
     ///
     /// # Errors
     ///
@@ -36,7 +37,8 @@ impl Held {
         ensures turns { self.new.turns ≡ self.old.turns }
         ensures waits { Waits (S.seen session.old) (S.seen session.new) self.old self.new }
         ensures refused { IfErr result (IsHeldFault (S.seen session.old) self.old.words.items) }
-        ensures unchanged { OnErr result ((self.new ≡ self.old) × (session.new ≡ session.old) × (peer.new ≡ peer.old)) }
+        ensures unchanged { OnErr result ((self.new ≡ self.old) × (session.new ≡ session.old)
+            × (peer.new ≡ peer.old)) }
         ensures keeps { S.keeps session.old session.new }
     {
         match make_room(session, &self.words) {
@@ -70,7 +72,8 @@ impl Held {
         ensures turns { self.new.turns ≡ self.old.turns }
         ensures waits { Waits (S.seen session.old) (S.seen session.new) self.old self.new }
         ensures refused { IfErr result (IsHeldFault (S.seen session.old) self.old.words.items) }
-        ensures unchanged { OnErr result ((self.new ≡ self.old) × (session.new ≡ session.old) × (peer.new ≡ peer.old)) }
+        ensures unchanged { OnErr result ((self.new ≡ self.old) × (session.new ≡ session.old)
+            × (peer.new ≡ peer.old)) }
         ensures keeps { S.keeps session.old session.new }
     {
         match make_room(session, &self.words) {
@@ -87,7 +90,7 @@ impl Held {
     }
 
     /// The bytes to send to a machine in this turn, as [`Peer::send`] makes them and with what it says: the words that wait are
-    /// acknowledged.
+    /// acknowledged. Of the session nothing changes but for how many events it has room.
     ///
     /// # Errors
     ///
@@ -99,12 +102,18 @@ impl Held {
         machine: u8,
         now: u32,
     ) -> Result<Result<Option<ArrayVec<u8, DATAGRAM_LIMIT>>, OtherSession>, HeldFault>
-        ensures sent { IfOk result (λ said. IfOk said (λ sent. IfSome sent (λ bytes.
-            IsSent (as_told (S.seen session.old) self.old.words.items 0)
-            (meeting (as_told (S.seen session.old) self.old.words.items 0) (ticking now peer.old)) machine bytes.items))) }
-        ensures lost { IfOk result (λ said. IfOk said (λ sent. is_none sent ≡ is_lost peer.old machine)) }
-        ensures counted { IfOk result (λ said. OnOk said (peer.new ≡ after_send
-            (meeting (as_told (S.seen session.old) self.old.words.items 0) (ticking now peer.old)) machine)) }
+        ensures sent { IfOk result
+            (λ said. IfOk said
+            (λ sent. IfSome sent
+            (λ bytes. IsSent (as_told (S.seen session.old) self.old.words.items 0)
+            (meeting (as_told (S.seen session.old) self.old.words.items 0) (ticking now peer.old))
+            machine bytes.items))) }
+        ensures lost { IfOk result
+            (λ said. IfOk said (λ sent. is_none sent ≡ is_lost peer.old machine)) }
+        ensures counted { IfOk result
+            (λ said. OnOk said
+            (peer.new ≡ after_send (meeting (as_told (S.seen session.old) self.old.words.items 0)
+            (ticking now peer.old)) machine)) }
         ensures accepted { IfOk result (λ said. OnOk said
             (IsOf (as_told (S.seen session.old) self.old.words.items 0) peer.old.member)) }
         ensures other { IfOk result (λ said. OnErr said

@@ -29,14 +29,15 @@ impl Held {
         bytes: &[u8],
         now: u32,
     ) -> Result<Result<Heard, Ignored>, HeldFault>
-        ensures heard { IfOk result (HearsHeldBy S.step now
-            (relayed_beside (S.seen session.old) self.old.words.items peer.old relay.old)
-            (relayed_beside (S.seen session.new) self.new.words.items peer.new relay.new) bytes.now) }
+        ensures heard { IfOk result
+            (HearsHeldBy S.step now (relayed_beside (S.seen session.old) self.old.words.items
+            peer.old relay.old) (relayed_beside (S.seen session.new) self.new.words.items peer.new
+            relay.new) bytes.now) }
         ensures turns { self.new.turns ≡ self.old.turns }
         ensures waits { Waits (S.seen session.old) (S.seen session.new) self.old self.new }
         ensures refused { IfErr result (IsHeldFault (S.seen session.old) self.old.words.items) }
-        ensures unchanged { OnErr result ((self.new ≡ self.old) × (session.new ≡ session.old) × (peer.new ≡ peer.old)
-            × (relay.new ≡ relay.old)) }
+        ensures unchanged { OnErr result ((self.new ≡ self.old) × (session.new ≡ session.old)
+            × (peer.new ≡ peer.old) × (relay.new ≡ relay.old)) }
         ensures keeps { S.keeps session.old session.new }
     {
         match make_room(session, &self.words) {
@@ -53,7 +54,7 @@ impl Held {
     }
 
     /// The bytes to send to a machine straight in this turn, as [`Relay::send`] makes them and with what it says: the words that wait
-    /// are acknowledged.
+    /// are acknowledged. Of the session nothing changes but for how many events it has room.
     ///
     /// # Errors
     ///
@@ -66,12 +67,14 @@ impl Held {
         machine: u8,
         now: u32,
     ) -> Result<Result<Option<ArrayVec<u8, DATAGRAM_LIMIT>>, OtherSession>, HeldFault>
-        ensures sent { IfOk result (λ said. SendsBy (as_told (S.seen session.old) self.old.words.items 0) now machine
+        ensures sent { IfOk result
+            (λ said. SendsBy (as_told (S.seen session.old) self.old.words.items 0) now machine
             peer.old peer.new relay.old relay.new (bytes_of (λ bytes. bytes.items) said)) }
         ensures same { self.new ≡ self.old }
         ensures session { roomless (S.seen session.new) ≡ roomless (S.seen session.old) }
         ensures refused { IfErr result (IsHeldFault (S.seen session.old) self.old.words.items) }
-        ensures unchanged { OnErr result ((session.new ≡ session.old) × (peer.new ≡ peer.old) × (relay.new ≡ relay.old)) }
+        ensures unchanged { OnErr result ((session.new ≡ session.old) × (peer.new ≡ peer.old)
+            × (relay.new ≡ relay.old)) }
         ensures keeps { S.keeps session.old session.new }
     {
         match make_room(session, &self.words) {

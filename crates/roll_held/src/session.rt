@@ -35,7 +35,8 @@ impl<'a, S: Settling> HeldSession<'a, S> {
         ensures reserved { self.new.reserved ≡ self.old.reserved }
         ensures same_session { self.new.session.ghost_name ≡ self.old.session.ghost_name }
         ensures turns { self.new.held.now.turns ≡ self.old.held.now.turns }
-        ensures waits { Waits (S.seen self.old.session.now) (S.seen self.new.session.now) self.old.held.now self.new.held.now }
+        ensures waits { Waits (S.seen self.old.session.now) (S.seen self.new.session.now)
+            self.old.held.now self.new.held.now }
         ensures same_held { self.new.held.ghost_name ≡ self.old.held.ghost_name }
         ensures keeps { S.keeps self.old.session.now self.new.session.now }
     {
@@ -53,12 +54,14 @@ impl<'a, S: Settling> HeldSession<'a, S> {
         ensures refused { IfErr result (IsWhy (reserve_refusal (S.seen self.old.session.now)
             (length self.old.held.now.words.items + 1))) }
         ensures unreserved { OnErr result (self.old.reserved ≡ 0) }
-        ensures same { roomless (S.seen self.new.session.now) ≡ roomless (S.seen self.old.session.now) }
+        ensures same { roomless (S.seen self.new.session.now) ≡ roomless
+            (S.seen self.old.session.now) }
         ensures words { self.new.held.now.words.items ≡ self.old.held.now.words.items }
         ensures reserved { self.new.reserved ≡ self.old.reserved }
         ensures same_session { self.new.session.ghost_name ≡ self.old.session.ghost_name }
         ensures turns { self.new.held.now.turns ≡ self.old.held.now.turns }
-        ensures waits { Waits (S.seen self.old.session.now) (S.seen self.new.session.now) self.old.held.now self.new.held.now }
+        ensures waits { Waits (S.seen self.old.session.now) (S.seen self.new.session.now)
+            self.old.held.now self.new.held.now }
         ensures same_held { self.new.held.ghost_name ≡ self.old.held.ghost_name }
         ensures keeps { S.keeps self.old.session.now self.new.session.now }
     {
@@ -80,7 +83,8 @@ impl<'a, S: Settling> HeldSession<'a, S> {
         ensures reserved { self.new.reserved ≡ self.old.reserved }
         ensures same_session { self.new.session.ghost_name ≡ self.old.session.ghost_name }
         ensures turns { self.new.held.now.turns ≡ self.old.held.now.turns }
-        ensures waits { Waits (S.seen self.old.session.now) (S.seen self.new.session.now) self.old.held.now self.new.held.now }
+        ensures waits { Waits (S.seen self.old.session.now) (S.seen self.new.session.now)
+            self.old.held.now self.new.held.now }
         ensures same_held { self.new.held.ghost_name ≡ self.old.held.ghost_name }
         ensures keeps { S.keeps self.old.session.now self.new.session.now }
     {
@@ -94,13 +98,15 @@ impl<'a, S: Settling> HeldSession<'a, S> {
         requires few { length self.old.held.now.words.items < MOST_HELD }
         requires takes { Takes
             (told (S.seen self.old.session.now) self.old.held.now.words.items) word }
-        requires some { 1 ≤ (told (S.seen self.old.session.now) self.old.held.now.words.items).reserved }
+        requires some { 1 ≤
+            (told (S.seen self.old.session.now) self.old.held.now.words.items).reserved }
         ensures words { self.new.held.now.words.items ≡ self.old.held.now.words.items ++ word ∷ [] }
         ensures reserved { self.new.reserved ≡ self.old.reserved - 1 }
         ensures session { self.new.session.now ≡ self.old.session.now }
         ensures same_session { self.new.session.ghost_name ≡ self.old.session.ghost_name }
         ensures turns { self.new.held.now.turns ≡ self.old.held.now.turns }
-        ensures waits { Waits (S.seen self.old.session.now) (S.seen self.new.session.now) self.old.held.now self.new.held.now }
+        ensures waits { Waits (S.seen self.old.session.now) (S.seen self.new.session.now)
+            self.old.held.now self.new.held.now }
         ensures same_held { self.new.held.ghost_name ≡ self.old.held.ghost_name }
     {
         self.reserved = self.reserved.saturating_sub(1);
@@ -109,8 +115,10 @@ impl<'a, S: Settling> HeldSession<'a, S> {
 
     /// Why a player can't leave: there is no such remote player, or it has left already.
     fn leave_refusal(&self, player: u8) -> Option<Refusal>
-        ensures { result ≡ first_refusal (disconnect_tests
-            (told (S.seen self.now.session.now) self.now.held.now.words.items).core.players player) }
+        ensures { result ≡ first_refusal
+            (disconnect_tests
+            (told (S.seen self.now.session.now) self.now.held.now.words.items).core.players
+            player) }
     {
         let Some(count) = self.confirmed(player) else {
             return Some(Refusal::InvalidPlayer);
@@ -128,20 +136,25 @@ impl<'a, S: Settling> HeldSession<'a, S> {
     fn leave(&mut self, player: u8) -> Result<Event, Refusal>
         ensures accepted { OnOk result (disconnect_refusal (as_told (S.seen self.old.session.now)
             self.old.held.now.words.items self.old.reserved) player ≡ None) }
-        ensures taken { OnOk result (as_told (S.seen self.new.session.now) self.new.held.now.words.items self.new.reserved
-            ≡ after_disconnect (as_told (S.seen self.old.session.now) self.old.held.now.words.items self.old.reserved) player) }
+        ensures taken { OnOk result
+            (as_told (S.seen self.new.session.now) self.new.held.now.words.items self.new.reserved ≡
+            after_disconnect (as_told (S.seen self.old.session.now) self.old.held.now.words.items
+            self.old.reserved) player) }
         ensures event { IfOk result (λ event. event ≡ DisconnectedFromPeer player) }
-        ensures refused { IfErr result (IsRefused (disconnect_refusal (as_told (S.seen self.old.session.now)
-            self.old.held.now.words.items self.old.reserved) player)
+        ensures refused { IfErr result
+            (IsRefused (disconnect_refusal
             (as_told (S.seen self.old.session.now) self.old.held.now.words.items self.old.reserved)
-            (as_told (S.seen self.new.session.now) self.new.held.now.words.items self.new.reserved)) }
+            player) (as_told (S.seen self.old.session.now) self.old.held.now.words.items
+            self.old.reserved) (as_told (S.seen self.new.session.now) self.new.held.now.words.items
+            self.new.reserved)) }
         ensures kept { IsSome (first_refusal (disconnect_tests
             (told (S.seen self.old.session.now) self.old.held.now.words.items).core.players player))
             → self.new ≡ self.old }
         ensures same_session { self.new.session.ghost_name ≡ self.old.session.ghost_name }
         ensures same_held { self.new.held.ghost_name ≡ self.old.held.ghost_name }
         ensures turns { self.new.held.now.turns ≡ self.old.held.now.turns }
-        ensures waits { Waits (S.seen self.old.session.now) (S.seen self.new.session.now) self.old.held.now self.new.held.now }
+        ensures waits { Waits (S.seen self.old.session.now) (S.seen self.new.session.now)
+            self.old.held.now self.new.held.now }
         ensures keeps { S.keeps self.old.session.now self.new.session.now }
     {
         if let Some(why) = self.leave_refusal(player) {

@@ -42,8 +42,13 @@ impl Absorbed {
         requires within { (self.old.dropped ≤ self.old.taken) × (self.old.unmade ≤ self.old.taken)
             × (self.old.added ≤ LONGEST * self.old.taken) }
         requires added { added_by fate ≤ LONGEST }
-        ensures { self.new
-            ≡ record { taken = self.old.taken + 1; added = self.old.added + added_by fate; dropped = self.old.dropped + dropped_by fate; unmade = self.old.unmade + unmade_by fate } }
+        ensures { self.new ≡ record {
+          taken = self.old.taken + 1;
+          added = self.old.added + added_by fate;
+          dropped =
+              self.old.dropped + dropped_by fate;
+          unmade = self.old.unmade + unmade_by fate;
+        } }
     {
         self.taken += 1;
         match fate {
@@ -70,7 +75,8 @@ fn graft_result<G: Game>(session: &mut Session<G>, done: Done<G>) -> Fate
 
 /// Takes in the results that have come.
 pub(crate) fn absorb_results<G: Game>(session: &mut Session<G>, owner: &mut Owner<G>) -> Absorbed
-    ensures absorbed { IsAbsorbed G.step session.old owner.old.came session.new owner.new.came result }
+    ensures absorbed { IsAbsorbed G.step session.old owner.old.came session.new owner.new.came
+        result }
     ensures pool { owner.new ≡ record owner.old { came = owner.new.came } }
 {
     let mut absorbed = Absorbed::default();

@@ -123,9 +123,11 @@ impl<G: Game> Host<G> {
         Ok(sender)
     }
 
-    /// Applies what came by the links, in their order, at most 64 items of each, as `remote_input` would. An item that is
-    /// refused for good counts as applied, and the last such refusal is told; one that is refused as `QueueFull`, `LogFull`
-    /// or `NoMemory` is held, its link stops, and the next pump tries it first.
+    /// Applies what came by the links, in their order, at most 64 items of each, as `remote_input` would. An item that
+    /// is refused for good counts as applied, and the last such refusal is told; one that is refused as `QueueFull`,
+    /// `LogFull` or `NoMemory` is held, its link stops, and the next pump tries it first. So no word is lost, doubled
+    /// or made up. What was sent by now is found: that is tested (`tests/runs/links.t`), and proved of links that have
+    /// ended.
     pub fn pump(&mut self) -> Pumped
         ensures pumped { IsPumped G.step self.old.session self.old.links
             self.new.session self.new.links result }
@@ -135,8 +137,9 @@ impl<G: Game> Host<G> {
         pump_links(&mut self.session, &mut self.links)
     }
 
-    /// Collects what the workers have run, at most 64 results, and grafts each branch among them, in the order in which they
-    /// are collected. A branch that is refused is dropped, also where it is for want of memory.
+    /// Collects what the workers have run, at most 64 results, and grafts each branch among them, in the order in which
+    /// they are collected. A branch that is refused is dropped, also where it is for want of memory. That it finds the
+    /// results that are there is tested, and not proved (`tests/runs/host_branches.t`).
     pub fn absorb(&mut self) -> Absorbed
         ensures absorbed { IsAbsorbed G.step self.old.session (came_by self.old.pool)
             self.new.session (came_by self.new.pool) result }
@@ -225,7 +228,8 @@ impl<G: Game> Host<G> {
         }
     }
 
-    /// Tells the workers, if there are any, to stop. Each still ends the job that it is at.
+    /// Tells the workers, if there are any, to stop. Each still ends the job that it is at. No clause says that it
+    /// closes their pool: that is tested (`tests/runs/host_branches.t`).
     pub fn close(&self) {
         if let Some(owner) = &self.pool {
             owner.close();

@@ -61,6 +61,11 @@ impl<G: Game> Host<G> {
 
     /// Does in turn what a queue asks for, and adds the replies to a list that has room for them.
     ///
+    /// A pump stands for the items that it applied, an absorb for the branches that it grafted, a call of the session
+    /// for itself, and all others for no event. The session is that after these events, whatever the threads did, and
+    /// its headline holds over all of them; only the copies that guesses had made, and what `reserve_log` reserved,
+    /// come on top. So laws of sessions hold of hosts: `crates/test_threads/src/host_laws.rt` takes some.
+    ///
     /// # Errors
     ///
     /// `NoMemory` alone: what came before was done, and what comes after it is left in the queue.

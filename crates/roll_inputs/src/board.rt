@@ -57,7 +57,8 @@ impl Board {
     pub fn new(alloc: Global, settings: &Settings) -> Result<Board, Refusal>
         ensures board { IfOk result (λ board. board ≡ first_inputs settings.now) }
         ensures accepted { OnOk result (start_refusal settings.now ≡ None) }
-        ensures refused { IfErr result (λ why. why ≡ unwrap_or (start_refusal settings.now) Refusal.NoMemory) }
+        ensures refused { IfErr result (λ why. why ≡ unwrap_or (start_refusal settings.now)
+            Refusal.NoMemory) }
     {
         if let Some(why) = settings.refusal() {
             return Err(why);
@@ -101,7 +102,8 @@ impl Board {
         ensures refused { IfErr result (λ why. local_refusal self.old player ≡ Some why) }
         ensures unchanged { OnErr result (self.new ≡ self.old) }
         ensures cells { KeepsCells self.old.players self.new.players player }
-        ensures rows { timeline self.new.players self.old.settled ≡ timeline self.old.players self.old.settled }
+        ensures rows { timeline self.new.players self.old.settled ≡ timeline self.old.players
+            self.old.settled }
     {
         if let Some(why) = self.local_refusal(player) {
             return Err(why);
@@ -119,8 +121,11 @@ impl Board {
         word: u32,
     ) -> Result<Heard, Refusal>
         requires past { past.now.rows ≡ timeline self.now.players self.now.settled }
-        ensures heard { IfOk result (λ heard. heard ≡ (if is_repeated self.now.players player frame word then Heard.Repeated else Heard.Taken)) }
-        ensures accepted { IfOk result (λ heard. heard ≡ Heard.Taken → remote_refusal self.now player frame ≡ None) }
+        ensures heard { IfOk result
+            (λ heard. heard ≡ (if is_repeated self.now.players player frame word then Heard.Repeated
+            else Heard.Taken)) }
+        ensures accepted { IfOk result (λ heard. heard ≡ Heard.Taken
+            → remote_refusal self.now player frame ≡ None) }
         ensures refused { IfErr result (λ why. remote_refusal self.now player frame ≡ Some why) }
         ensures new { OnErr result (is_repeated self.now.players player frame word ≡ false) }
     {
@@ -139,14 +144,19 @@ impl Board {
         word: u32,
     ) -> Result<Heard, Refusal>
         requires past { past.now.rows ≡ timeline self.old.players self.old.settled }
-        ensures heard { IfOk result (λ heard. heard ≡ (if is_repeated self.old.players player frame word then Heard.Repeated else Heard.Taken)) }
-        ensures accepted { IfOk result (λ heard. heard ≡ Heard.Taken → remote_refusal self.old player frame ≡ None) }
-        ensures words { OnOk result (self.new ≡ (if is_repeated self.old.players player frame word then self.old else with_player (with_words (word ∷ [])) self.old player)) }
+        ensures heard { IfOk result
+            (λ heard. heard ≡ (if is_repeated self.old.players player frame word then Heard.Repeated
+            else Heard.Taken)) }
+        ensures accepted { IfOk result (λ heard. heard ≡ Heard.Taken
+            → remote_refusal self.old player frame ≡ None) }
+        ensures words { OnOk result (self.new ≡ (if is_repeated self.old.players player frame word
+            then self.old else with_player (with_words (word ∷ [])) self.old player)) }
         ensures refused { IfErr result (λ why. remote_refusal self.old player frame ≡ Some why) }
         ensures new { OnErr result (is_repeated self.old.players player frame word ≡ false) }
         ensures unchanged { OnErr result (self.new ≡ self.old) }
         ensures cells { KeepsCells self.old.players self.new.players player }
-        ensures rows { timeline self.new.players self.old.settled ≡ timeline self.old.players self.old.settled }
+        ensures rows { timeline self.new.players self.old.settled ≡ timeline self.old.players
+            self.old.settled }
     {
         let heard = self.remote_reply(past, player, frame, word)?;
         if heard == Heard::Taken {
@@ -178,7 +188,8 @@ impl Board {
         ensures refused { IfErr result (λ why. disconnect_refusal self.old player ≡ Some why) }
         ensures unchanged { OnErr result (self.new ≡ self.old) }
         ensures cells { KeepsCells self.old.players self.new.players player }
-        ensures rows { timeline self.new.players self.old.settled ≡ timeline self.old.players self.old.settled }
+        ensures rows { timeline self.new.players self.old.settled ≡ timeline self.old.players
+            self.old.settled }
     {
         if let Some(why) = self.disconnect_refusal(player) {
             return Err(why);
@@ -191,8 +202,12 @@ impl Board {
     pub fn next(&mut self)
         requires given { IsTrue (all_given self.old.players) }
         requires near { self.old.frame ≤ self.old.settled + self.old.threshold }
-        ensures begun { self.new ≡ record self.old { frame = self.old.frame + 1; players = map with_none_given self.old.players } }
-        ensures rows { timeline self.new.players self.old.settled ≡ timeline self.old.players self.old.settled }
+        ensures begun { self.new ≡ record self.old {
+          frame = self.old.frame + 1;
+          players = map with_none_given self.old.players;
+        } }
+        ensures rows { timeline self.new.players self.old.settled ≡ timeline self.old.players
+            self.old.settled }
     {
         self.frame += 1;
         start_frames(&mut self.queues);
@@ -336,7 +351,8 @@ impl Board {
         Some(queue.count())
     }
 
-    /// The confirmed word of a player at a frame. `past` is the settled rows.
+    /// The confirmed word of a player at a frame, settled or not. None where it isn't confirmed, and where there is no
+    /// such player. `past` is the settled rows.
     pub fn confirmed_word(&self, past: &Record, player: u8, frame: u32) -> Option<u32>
         requires { past.now.rows ≡ timeline self.now.players self.now.settled }
         ensures { result ≡ confirmed_word self.now.players player frame }
@@ -382,7 +398,8 @@ impl Board {
         ensures narrow { self.now.threshold ≤ most_threshold Wide }
         ensures short { self.now.frame ≤ FRAME_LIMIT }
         ensures stays { All (λ p. p.local ≡ true → p.gone ≡ false) self.now.players }
-        ensures ahead { All (λ p. p.gone ≡ false → self.now.settled ≤ length p.words) self.now.players }
+        ensures ahead { All (λ p. p.gone ≡ false → self.now.settled ≤ length p.words)
+            self.now.players }
     {
         let _ = &self.queues;
     }

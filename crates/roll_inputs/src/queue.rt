@@ -49,7 +49,10 @@ impl Queue {
     pub(crate) fn new(alloc: Global, settings: &Settings, place: u8) -> Result<Queue, AllocError>
         requires place { place < PLAYER_LIMIT }
         requires delay { delay_at settings.now place ≤ DELAY_LIMIT }
-        ensures { IfOk result (λ q. q ≡ record { player = first_player settings.now place; from = 0 }) }
+        ensures { IfOk result (λ q. q ≡ record {
+          player = first_player settings.now place;
+          from = 0;
+        }) }
     {
         let at = usize::from(place);
         let mut queue = Queue {
@@ -194,10 +197,16 @@ impl Queue {
         word: u32,
     ) -> Result<Heard, Refusal>
         requires past { HasPast self.now past.now.rows place }
-        requires ahead { self.now.player.gone ≡ false → self.now.from ≤ length self.now.player.words }
-        ensures heard { IfOk result (λ heard. heard ≡ (if is_repeated (self.now.player ∷ []) 1 frame word then Heard.Repeated else Heard.Taken)) }
-        ensures accepted { IfOk result (λ heard. heard ≡ Heard.Taken → first_refusal (remote_tests (self.now.player ∷ []) self.now.from 1 frame) ≡ None) }
-        ensures refused { IfErr result (λ why. first_refusal (remote_tests (self.now.player ∷ []) self.now.from 1 frame) ≡ Some why) }
+        requires ahead { self.now.player.gone ≡ false
+            → self.now.from ≤ length self.now.player.words }
+        ensures heard { IfOk result
+            (λ heard. heard ≡ (if is_repeated (self.now.player ∷ []) 1 frame word
+            then Heard.Repeated else Heard.Taken)) }
+        ensures accepted { IfOk result (λ heard. heard ≡ Heard.Taken
+            → first_refusal (remote_tests (self.now.player ∷ []) self.now.from 1 frame) ≡ None) }
+        ensures refused { IfErr result
+            (λ why. first_refusal (remote_tests (self.now.player ∷ []) self.now.from 1 frame) ≡ Some
+            why) }
         ensures new { OnErr result (is_repeated (self.now.player ∷ []) 1 frame word ≡ false) }
     {
         if self.local {

@@ -14,8 +14,10 @@ use std::alloc::{AllocError, Global};
 /// The players at the start.
 pub(crate) fn first_queues(alloc: Global, settings: &Settings) -> Result<Vec<Queue>, AllocError>
     requires few { settings.now.players ≤ PLAYER_LIMIT }
-    requires delays { (place : ℕ) → place < settings.now.players → delay_at settings.now place ≤ DELAY_LIMIT }
-    ensures { IfOk result (λ queues. queues.items ≡ map (first_known settings.now) (places settings.now)) }
+    requires delays { (place : ℕ) → place < settings.now.players → delay_at settings.now place ≤
+        DELAY_LIMIT }
+    ensures { IfOk result (λ queues. queues.items ≡ map (first_known settings.now)
+        (places settings.now)) }
 {
     let mut queues = Vec::with_capacity(alloc, usize::from(settings.players))?;
     for place in 0..settings.players {

@@ -10,6 +10,7 @@ use std::marker::Model;
 /// The settled rows, each with a cell for every player.
 ///
 /// A row's words stand behind those of the row before it, 0 for a player who is gone; its bits of gone players lie apart.
+/// Only `reserve` takes memory.
 #[derive(Drop)]
 pub struct Record {
     players: u8,

@@ -42,6 +42,10 @@ impl Model for Link {
 
 impl Link {
     /// Both ends of a link by which nothing was sent.
+    ///
+    /// # Errors
+    ///
+    /// If the allocator has no room.
     pub fn open(alloc: Global) -> Result<(LinkSender, Link), AllocError>
         ensures sender { IfOk result (λ ends. ends.0 ≡ record { ring = ends.1.ring; sent = [] }) }
         ensures link { IfOk result
@@ -58,8 +62,9 @@ impl Link {
         Ok((LinkSender::new(producer), link))
     }
 
-    /// The next item: the one that was given back, or else the next in the ring. It counts as applied, unless it is given
-    /// back. None if the ring is empty.
+    /// The next item: the one that was given back, or else the next in the ring. It counts as applied, unless it is
+    /// given back. None if the ring is empty. That what was sent by now is found is proved only of a link that has
+    /// ended; else it is tested (`tests/runs/links.t`).
     pub fn next(&mut self) -> Option<Remote>
         ensures same { self.new ≡ record self.old {
           applied = self.old.applied

@@ -36,6 +36,10 @@ use std::thread::Threads;
 /// and answers how many of them are refusals. The game starts at `opening`; the helpers, 1 to 4, are games of its kind, each for a
 /// thread of its own.
 ///
+/// An `R` is answered by whether the log grew, and by the refusal that the pump told (`specs/Told.antt`). A `G` has its
+/// jobs run and writes nothing; a `B` takes in whichever branches have come. That a run ends, and writes the same
+/// whatever the schedule, is tested (`tests/runs/live.t`), not proved.
+///
 /// At most 1,048,577 bytes are read. Nothing is written unless the whole script can be read and played, and then all in large
 /// pieces at the end. If the session doesn't start, its refusal is all that is written, and counts as one. A worker that
 /// can't be started, and a word that is held, end the run as one for which there is no memory. All threads have ended by then,

@@ -91,7 +91,8 @@ pub(crate) fn give_own<S: Networked>(session: &S, mesh: &mut Mesh, place: u8)
     requires place { place < PLAYER_LIMIT }
     requires own { owner_of mesh.old.seat place ≡ mesh.old.seat.me }
     requires few { mesh.old.seat.words ≤ INPUT_LIMIT }
-    requires more { slice_index mesh.old.machine.has place ≤ known (S.seen session.now) mesh.old.seat place }
+    requires more { slice_index mesh.old.machine.has place ≤ known (S.seen session.now)
+        mesh.old.seat place }
     ensures { mesh.new ≡ record mesh.old {
       machine = record mesh.old.machine {
         has = slice_set mesh.old.machine.has place (known (S.seen session.now) mesh.old.seat place);

@@ -26,7 +26,8 @@ pub(crate) struct Parted {
 /// Disconnects the player at a place if it has left the mesh.
 fn disconnect<S: Networked>(session: &mut S, mesh: &Mesh, place: u8) -> Parted
     requires { place < PLAYER_LIMIT }
-    ensures parted { Disconnects (S.seen session.old) mesh.now.machine place (S.seen session.new) result }
+    ensures parted { Disconnects (S.seen session.old) mesh.now.machine place (S.seen session.new)
+        result }
     ensures keeps { S.keeps session.old session.new }
 {
     let nothing = Parted {
@@ -51,7 +52,8 @@ fn disconnect<S: Networked>(session: &mut S, mesh: &Mesh, place: u8) -> Parted
 
 /// Disconnects each player that has left the mesh.
 pub(crate) fn disconnect_all<S: Networked>(session: &mut S, mesh: &Mesh) -> Left
-    ensures left { DisconnectsAll (S.seen session.old) mesh.now.machine (S.seen session.new) result }
+    ensures left { DisconnectsAll (S.seen session.old) mesh.now.machine (S.seen session.new)
+        result }
     ensures keeps { S.keeps session.old session.new }
 {
     let mut players = [false; PLAYER_LIMIT];

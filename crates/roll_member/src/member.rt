@@ -93,10 +93,12 @@ impl Member {
         true
     }
 
-    /// Hears a packet, with its words as the packet offers them: those of player 0, then those of player 1, and so on. Words
-    /// that are to be believed become remote words of the session, in their order, as far as it takes them. None is taken of a frame from
-    /// `end` on: these are left, as if they hadn't come. But of machines that are gone they are taken, as long as words of frames before
-    /// `end` are waited for.
+    /// Hears a packet, with its words as the packet offers them: those of player 0, then those of player 1, and so on.
+    /// Words that are to be believed become remote words of the session, in their order, as far as it takes them. None
+    /// is taken of a frame from `end` on: these are left, as if they hadn't come. But of machines that are gone they
+    /// are taken, as long as words of frames before `end` are waited for. Of an input's other words just as many are
+    /// taken as of its first: room for them is made before, so none of them is refused. Of a packet with fewer words
+    /// than it offers those that are there count; where an input has several words, none do.
     ///
     /// # Errors
     ///
@@ -109,9 +111,12 @@ impl Member {
         end: u32,
     ) -> Result<Taken, MeshRefusal>
         requires { IsTied (S.seen session.old) self.old.mesh }
-        ensures taken { IfOk result (HearsPacket S.step
-            (record { session = S.seen session.old; mesh = self.old.mesh })
-            (record { session = S.seen session.new; mesh = self.new.mesh }) packet.now words.now end) }
+        ensures taken { IfOk result (HearsPacket S.step (record {
+          session = S.seen session.old;
+          mesh = self.old.mesh;
+        })
+            (record { session = S.seen session.new; mesh = self.new.mesh }) packet.now words.now
+            end) }
         ensures tied { IsTied (S.seen session.new) self.new.mesh }
         ensures limits { self.new.limits ≡ self.old.limits }
         ensures accepted { OnOk result (hear_refusal self.old.mesh packet.now ≡ None) }

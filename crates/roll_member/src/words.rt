@@ -22,7 +22,8 @@ pub(crate) struct Took {
 fn take_words<S: Networked>(session: &mut S, player: u8, first: u32, words: &[u32]) -> Took
     requires room { first + length words.now ≤ u32.MAX }
     requires next { 1 ≤ length words.now → first ≡ length (words_of (S.seen session.old) player) }
-    ensures took { TakesWords S.step (S.seen session.old) (S.seen session.new) player first words.now result }
+    ensures took { TakesWords S.step (S.seen session.old) (S.seen session.new) player first
+        words.now result }
     ensures led { IsLed (S.seen session.new) player first result.count }
     ensures keeps { S.keeps session.old session.new }
 {
@@ -44,7 +45,8 @@ fn take_words<S: Networked>(session: &mut S, player: u8, first: u32, words: &[u3
 fn follow_words<S: Networked>(session: &mut S, player: u8, first: u32, words: &[u32])
     requires room { first + length words.now ≤ u32.MAX }
     requires can { CanTake (S.seen session.old) player first (length words.now) }
-    ensures taken { IsTaken S.step (S.seen session.old) (S.seen session.new) player first words.now }
+    ensures taken { IsTaken S.step (S.seen session.old) (S.seen session.new) player first
+        words.now }
     ensures keeps { S.keeps session.old session.new }
 {
     session.laws();
@@ -74,7 +76,8 @@ fn make_room<S: Networked>(session: &mut S, input: u8, wanted: usize) -> Room
     ensures alone { input ≡ 1 → (S.seen session.new).reserved ≡ (S.seen session.old).reserved }
     ensures more { (S.seen session.old).reserved ≤ (S.seen session.new).reserved }
     ensures enough { 2 ≤ input → input * result.frames ≤ (S.seen session.new).reserved }
-    ensures fits { 2 ≤ input → 1 ≤ result.frames → FitsLog (S.seen session.old) (input * result.frames) }
+    ensures fits { 2 ≤ input → 1 ≤ result.frames → FitsLog (S.seen session.old)
+        (input * result.frames) }
     ensures keeps { S.keeps session.old session.new }
 {
     if input < 2 {
@@ -111,7 +114,8 @@ fn take_first<S: Networked>(
     requires few { input ≤ INPUT_LIMIT }
     requires room { first + length words.now ≤ u32.MAX }
     requires next { 1 ≤ length words.now → first ≡ length (words_of (S.seen session.old) player) }
-    ensures took { TakesFirst S.step input (S.seen session.old) (S.seen session.new) player first words.now result }
+    ensures took { TakesFirst S.step input (S.seen session.old) (S.seen session.new) player first
+        words.now result }
     ensures leads { Leads input (S.seen session.new) player first result.count }
     ensures many { result.count ≤ length words.now }
     ensures keeps { S.keeps session.old session.new }

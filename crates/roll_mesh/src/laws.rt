@@ -1,5 +1,11 @@
 //! Laws of a match, over any steps of any number of machines, and any network that delivers only what was sent, as
 //! often and as late as it likes. Each is the contract of a function that makes no call.
+//!
+//! Each call of a mesh is a step or changes nothing, so they hold of any meshes that hear packets as they were told,
+//! trimmed or not. A mesh has counts alone: the laws of words are for whoever keeps the words beside it, and gives,
+//! tells and hears them as `give_word`, `tell_words` and `hear_words` in `specs/Words.antt` say, as a member of
+//! `roll_member` does. No law says that something happens in time, and none speaks of a machine that tells what isn't
+//! so.
 ghost use Rattle.roll_mesh.specs.HoldingUp.{WaitersHoldUpNobody};
 ghost use Rattle.roll_mesh.specs.Laws.{GoneStaysGone, HearsTheSame, NobodyIsBelievedBeyond, OwnersHaveMost, TheyAgree, TheyGetOn, WhoStaysHasAsMany};
 ghost use Rattle.roll_mesh.specs.Seams.{OfOneCountOnePast, TheyCloseAlike};
@@ -61,8 +67,8 @@ pub fn shortened_is_heard_alike()
     ensures { HearsTheSame }
 {}
 
-/// Of a chain of machines that wait for each other only the end holds up the match: a machine that by its own counts waits for
-/// a word doesn't.
+/// Of a chain of machines that wait for each other only the end holds up the match: a machine that by what it told last
+/// waits for a word doesn't, once the words that it gave have come.
 pub fn waiters_hold_up_nobody()
     ensures { WaitersHoldUpNobody }
 {}

@@ -108,14 +108,16 @@ impl Mesh {
     pub fn tell(&self, machine: u8, room: &[u32; PLAYER_LIMIT]) -> Packet
         ensures told { result ≡ tell self.now.seat machine room.now self.now.machine }
         ensures had { is_had result ≡ true }
-        ensures even { AreEven self.now.seat self.now.machine room.now → is_even self.now.seat result ≡ true }
+        ensures even { AreEven self.now.seat self.now.machine room.now
+            → is_even self.now.seat result ≡ true }
     {
         self.machine.tell(&self.seat, machine, room)
     }
 
     /// Hears a packet. Whom it calls gone is gone here too, except this machine. Of its words those are taken that go
     /// on from the words that are there, if the player hasn't left, and the sender owns the player or both regard the
-    /// owner as gone. A view that is older than the sender's last one is passed over.
+    /// owner as gone. A view that is older than the sender's last one is passed over. A packet that tells what isn't so
+    /// is heard as any other: whom it calls gone is believed.
     ///
     /// # Errors
     ///

@@ -130,7 +130,9 @@ impl Packet {
     }
 
     /// The packet with each player's words before a frame alone, for a machine that has no room for more: the rest come
-    /// again, since they are told until they are there.
+    /// again, since they are told until they are there. A packet that isn't refused isn't refused trimmed either, if it
+    /// is trimmed alike for all words of an input; and if it is trimmed to no fewer words than there are, and to no
+    /// more than it would bring, just as many are there once it is heard (`proofs/Trimmed.antt`).
     pub fn trimmed(&self, most: &[u32; PLAYER_LIMIT]) -> Packet
         ensures { result ≡ trimmed most.now self.now }
     {

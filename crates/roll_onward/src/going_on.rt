@@ -18,7 +18,8 @@ use std::alloc::Global;
 use std::mem;
 
 /// Goes on in the next epoch, if this one is over: the session starts anew from the state at the end, and so does the network. What own
-/// players gave past the end is given again, and frames past it are run again. Marks are judged first.
+/// players gave past the end is given again, and frames past it are run again, as far as the new session takes that: it
+/// isn't said how far it did. Marks are judged first.
 ///
 /// The engine is another than the session's: it runs the rows up to the end that aren't settled, and then plays the next epoch. The one of
 /// the session that ended stays with that, in [`Epochs::past`].
@@ -101,8 +102,8 @@ fn follow<G: Game + Drop>(
     session: &mut Session<G>,
     opening: &Opening,
 ) -> Result<Past<Session<G>>, OnwardFault<G>>
-    ensures goes_on { IfOk result (GoesOnward G.step opening.now chain.old chain.new peer.old peer.new
-        relay.old relay.new session.old session.new) }
+    ensures goes_on { IfOk result (GoesOnward G.step opening.now chain.old chain.new peer.old
+        peer.new relay.old relay.new session.old session.new) }
     ensures refused { IfErr result
         (λ fault. IsWhyNotFollowed G.step opening.now chain.old session.old fault.why) }
     ensures chain { OnErr result (chain.new ≡ chain.old) }

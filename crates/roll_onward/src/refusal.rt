@@ -22,6 +22,8 @@ pub enum OnwardRefusal {
 /// Why a match doesn't go on, with the engine of the game that was handed in.
 #[derive(Drop)]
 pub struct OnwardFault<G: Game> {
+    /// Why.
     pub why: OnwardRefusal,
+    /// The engine.
     pub game: G,
 }

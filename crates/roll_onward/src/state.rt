@@ -11,7 +11,8 @@ use roll_game::Game;
 use roll_session::Session;
 
 /// The state at a frame, from the settled one on, if all rows before it are known: the serial run over those rows, from the session's
-/// opening. An engine of the game runs it from the settled state; it is another than the session's own, which stays as it is.
+/// opening. An engine of the game runs it from the settled state; it is another than the session's own, which stays as
+/// it is. It loads once, advances once for each row from there on, and saves once.
 ///
 /// # Errors
 ///
@@ -26,7 +27,8 @@ pub fn state_at<G: Game>(
         (λ state. G.snapshot_value state ≡ value_at G.step session.now frame) }
     ensures known { OnOk result (IsKnownTo session.now frame) }
     ensures counts { OnOk result (G.call_counts game.new ≡ counted Save true
-        (advanced (frame - settled session.now.core) (counted Load true (G.call_counts game.old)))) }
+        (advanced (frame - settled session.now.core)
+        (counted Load true (G.call_counts game.old)))) }
     ensures refused { IfErr result (IsWhyNoState session.now.core frame) }
 {
     session.laws();

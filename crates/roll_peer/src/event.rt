@@ -31,7 +31,8 @@ pub enum PeerEvent {
         /// The player's number, from 1.
         player: u8,
     },
-    /// This machine is ahead, and should wait for the others.
+    /// This machine is ahead, and should wait for the others. At most one poll in 40 tells it, of those that find the
+    /// session at another frame; it goes by the machine that this one was furthest ahead of at each of them.
     TimeSync {
         /// How many frames to wait.
         frames_ahead: u32,

@@ -63,10 +63,13 @@ impl Peer {
         settings: MatchSettings,
         seating: &[Seating; MACHINE_LIMIT],
     ) -> Result<Peer, OpenRefusal>
-        ensures followed { IfOk result (IsFollowedAs (S.seen session.now) settings self.now seating.now) }
-        ensures accepted { OnOk result (join_refusal (S.seen session.now) (seat_of settings) ≡ None) }
+        ensures followed { IfOk result (IsFollowedAs (S.seen session.now) settings self.now
+            seating.now) }
+        ensures accepted { OnOk result (join_refusal (S.seen session.now) (seat_of settings) ≡
+            None) }
         ensures drawn { OnOk result (settings.draw ≢ 0) }
-        ensures delayed { OnOk result (are_delayed_alike (S.seen session.now).settings settings ≡ true) }
+        ensures delayed { OnOk result (are_delayed_alike (S.seen session.now).settings settings ≡
+            true) }
         ensures refused { IfErr result (IsWhyNot (S.seen session.now) settings) }
     {
         if settings.draw == 0 {
@@ -145,7 +148,8 @@ impl Peer {
         seating: &[Seating; MACHINE_LIMIT],
     ) -> Member
         requires seat { member.mesh.seat ≡ seat_of settings.now }
-        ensures mesh { result.mesh ≡ without_all (gone_first self.now settings.now seating.now) member.mesh }
+        ensures mesh { result.mesh ≡ without_all (gone_first self.now settings.now seating.now)
+            member.mesh }
         ensures limits { result.limits ≡ member.limits }
         ensures seat { result.mesh.seat ≡ seat_of settings.now }
     {
@@ -227,7 +231,8 @@ impl Peer {
 /// A machine is gone from the first.
 fn leave(member: &mut Member, machine: u8)
     requires { leave_refusal member.old.mesh machine ≡ None }
-    ensures mesh { member.new.mesh ≡ stepped (λ seat here. leave seat machine here) member.old.mesh }
+    ensures mesh { member.new.mesh ≡ stepped (λ seat here. leave seat machine here)
+        member.old.mesh }
     ensures limits { member.new.limits ≡ member.old.limits }
 {
     match member.leave(machine) {

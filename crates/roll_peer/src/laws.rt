@@ -15,6 +15,7 @@ ghost use Rattle.roll_peer.specs.declared.stall.TheConstants.{LEAP};
 
 /// A play or a bye is heard only if it was sealed by the draws of this opening and of the sender's one that is believed. With
 /// `roll_contact`'s laws: nothing of another match, of another opening, or for another receiver, unless the hash has a collision.
+/// That nobody makes a tag who doesn't know the number rests on HMAC with SHA-256, cut to 8 bytes, and is no theorem.
 pub fn nothing_else_is_heard()
     ensures { NothingElseIsHeard }
 {}
@@ -28,6 +29,9 @@ pub fn events_name_machines()
 /// comes by them to the same state if their games are alike; and players who left both left at one frame. So it is whatever the
 /// machines call, and whatever the network loses, repeats, delays or makes up: of what comes, a machine hears as a play only what
 /// another of the match has sealed.
+///
+/// Each network is opened once, by `open` or by `follow`: the law is of each epoch of a match by itself, whoever is
+/// gone as it begins. Of both machines it supposes that their sessions were told of others by these networks alone.
 pub fn two_peers_one_match()
     ensures { TwoPeersOneMatch }
 {}

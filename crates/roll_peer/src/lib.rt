@@ -1,4 +1,7 @@
 //! The network of a match at one machine, beside its session.
+//!
+//! No clause says that words come through, or when: the laws say that what two machines settle is the same, and not
+//! that they settle it.
 #![tactic(auto)]
 
 mod comparison;

@@ -33,7 +33,8 @@ impl Peer {
         player: u8,
         mark: Mark,
     ) -> Result<u32, MarkRefusal>
-        ensures marked { IfOk result (IsMarkedAs (S.seen session.now) self.old self.new player mark) }
+        ensures marked { IfOk result (IsMarkedAs (S.seen session.now) self.old self.new player
+            mark) }
         ensures accepted { OnOk result (mark_refusal self.old player mark ≡ None) }
         ensures own { OnOk result (IsOf (S.seen session.now) self.old.member) }
         ensures refused { IfErr result (IsWhyUnmarked (S.seen session.now) self.old player mark) }
@@ -54,7 +55,9 @@ impl Peer {
     fn know(&mut self, player: u8, marked: Marked)
         requires there { is_numbered player ≡ true }
         requires spelled { has_players marked.mark.newcomer ≡ true }
-        ensures { self.new ≡ record self.old { marks = slice_set self.old.marks (player - 1) (Some marked) } }
+        ensures { self.new ≡ record self.old {
+          marks = slice_set self.old.marks (player - 1) (Some marked);
+        } }
     {
         self.marks[usize::from(player) - 1] = Some(marked);
     }
@@ -154,7 +157,8 @@ impl Peer {
 
     /// The marks of words that are offered, and of all others that are there.
     pub(crate) fn told_marks(&self, offers: &[Offer; PLAYER_LIMIT]) -> KnownMarks
-        ensures marks { result ≡ told_marks offers.now self.now.member.mesh.machine.has self.now.marks }
+        ensures marks { result ≡ told_marks offers.now self.now.member.mesh.machine.has
+            self.now.marks }
         ensures spelled { are_spelled result ≡ true }
     {
         let has = self.member.mesh().has();

@@ -18,8 +18,10 @@ pub(crate) fn take_seat<S: Networked>(
         (record { session = S.seen session.now; mesh = member.mesh })) }
     ensures limits { IfOk result (λ member. member.limits ≡ (S.seen session.now).settings) }
     ensures tied { IfOk result (λ member. IsTied (S.seen session.now) member.mesh) }
-    ensures accepted { OnOk result (join_refusal (S.seen session.now) (seat_of settings.now) ≡ None) }
-    ensures delayed { OnOk result (are_delayed_alike (S.seen session.now).settings settings.now ≡ true) }
+    ensures accepted { OnOk result (join_refusal (S.seen session.now) (seat_of settings.now) ≡
+        None) }
+    ensures delayed { OnOk result (are_delayed_alike (S.seen session.now).settings settings.now ≡
+        true) }
     ensures refused { IfErr result (IsWhyNot (S.seen session.now) settings.now) }
 {
     if !settings.are_delayed_alike(session.settings()) {

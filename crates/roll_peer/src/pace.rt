@@ -31,8 +31,10 @@ impl Pace {
 
     /// Notes a turn, and says how many frames to wait, if it is time to ask and this machine is ahead.
     pub(crate) fn turn(&mut self, contacts: &[Contact; MACHINE_LIMIT], mesh: &Mesh) -> Option<u32>
-        ensures paced { self.new ≡ paced (slowest mesh.now.machine.gone contacts.now MACHINES) self.old }
-        ensures wait { result ≡ wait_of (slowest mesh.now.machine.gone contacts.now MACHINES) self.old }
+        ensures paced { self.new ≡ paced (slowest mesh.now.machine.gone contacts.now MACHINES)
+            self.old }
+        ensures wait { result ≡ wait_of (slowest mesh.now.machine.gone contacts.now MACHINES)
+            self.old }
     {
         match slowest(contacts, mesh) {
             Some((own, other)) => self.note(own, other),

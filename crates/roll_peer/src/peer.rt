@@ -32,7 +32,8 @@ use std::marker::Model;
 
 /// The network of a match at one machine: what it knows of the other machines, and what it has to tell its program. The session
 /// stands beside it, with its game or without one, and is lent to the calls that need it: give always the same one, and tell it of
-/// others by these calls alone.
+/// others by these calls alone. They tell it words of others, and that others leave, each as its rules have it, and a
+/// `turn` makes one roll at most. Nothing else happens to it.
 ///
 /// A program calls `receive` for each datagram that came, gives its players' words to the session once `is_running` says that the
 /// match has begun, makes a `turn`, and sends what `send` makes for each other machine: all this some 60 times a second. All moments
@@ -114,10 +115,12 @@ impl Peer {
         ensures opened { IfOk result (IsOpenedAs (S.seen session.now) settings) }
         ensures tied { IfOk result (λ peer. IsTied (S.seen session.now) peer.member.mesh) }
         ensures begins { IfOk result (BeginsAs (S.seen session.now) settings []) }
-        ensures accepted { OnOk result (join_refusal (S.seen session.now) (seat_of settings) ≡ None) }
+        ensures accepted { OnOk result (join_refusal (S.seen session.now) (seat_of settings) ≡
+            None) }
         ensures drawn { OnOk result (settings.draw ≢ 0) }
         ensures numbered { OnOk result (has_numbers settings ≡ true) }
-        ensures delayed { OnOk result (are_delayed_alike (S.seen session.now).settings settings ≡ true) }
+        ensures delayed { OnOk result (are_delayed_alike (S.seen session.now).settings settings ≡
+            true) }
         ensures refused { IfErr result (IsWhyNot (S.seen session.now) settings) }
     {
         if settings.draw == 0 {
@@ -175,7 +178,9 @@ impl Peer {
     }
 
     /// Notes the digest of the session's settled state, by which the machines see that they play the same game. It stays until
-    /// that of a frame is noted which is a multiple of 256 frames later.
+    /// that of a frame is noted which is a multiple of 256 frames later. One datagram in 64 to each machine tells the
+    /// last one, if it is a play. While the first frame that differs is sought, each play tells one by which that is
+    /// found, if it was noted.
     ///
     /// # Errors
     ///

@@ -38,6 +38,12 @@ impl Peer {
     /// changes nothing, but that hellos which aren't of this match are counted. It takes memory for the log alone, and none for events
     /// that were reserved.
     ///
+    /// A hello is read by the number of the pair of machines alone, and anything else by the draws of both openings
+    /// too. Each new word of a play reaches the session once, in order, as far as the session takes them. A mark is
+    /// known by the play that brings its word, if none of that player was known before. Of frames after a mark that
+    /// isn't void no words are taken, but of machines that are gone, as long as words up to the mark's frame are waited
+    /// for.
+    ///
     /// # Errors
     ///
     /// Why they weren't heard. Then nothing changed but the clock and the count of strangers; and of what its sender sealed it is
@@ -92,8 +98,8 @@ impl Peer {
         bytes: &[u8],
     ) -> Result<Received, Ignored>
         requires tied { IsTied (S.seen session.old) self.old.member.mesh }
-        ensures received { IfOk result
-            (Receives S.step (S.seen session.old) (S.seen session.new) self.old self.new bytes.now) }
+        ensures received { IfOk result (Receives S.step (S.seen session.old) (S.seen session.new)
+            self.old self.new bytes.now) }
         ensures tied { OnOk result (IsTied (S.seen session.new) self.new.member.mesh) }
         ensures accepted { OnOk result (ignored_sized self.old bytes.now ≡ None) }
         ensures ignored { IfErr result (λ why. ignored_sized self.old bytes.now ≡ Some why) }
@@ -200,8 +206,8 @@ impl Peer {
         requires place { sender < MACHINE_LIMIT }
         requires listened { deaf_to self.old sender ≡ None }
         requires spelled { is_spelled_in (content body) ≡ true }
-        ensures heard { IfOk result
-            (Hears S.step (S.seen session.old) (S.seen session.new) self.old self.new sender (content body)) }
+        ensures heard { IfOk result (Hears S.step (S.seen session.old) (S.seen session.new) self.old
+            self.new sender (content body)) }
         ensures tied { OnOk result (IsTied (S.seen session.new) self.new.member.mesh) }
         ensures session { OnErr result (session.new ≡ session.old) }
         ensures keeps { S.keeps session.old session.new }
@@ -247,8 +253,8 @@ impl Peer {
         requires place { sender < MACHINE_LIMIT }
         requires listened { deaf_to self.old sender ≡ None }
         requires spelled { are_spelled play.now.marks ≡ true }
-        ensures heard { IfOk result
-            (Hears S.step (S.seen session.old) (S.seen session.new) self.old self.new sender (Plays (turn play.now))) }
+        ensures heard { IfOk result (Hears S.step (S.seen session.old) (S.seen session.new) self.old
+            self.new sender (Plays (turn play.now))) }
         ensures tied { OnOk result (IsTied (S.seen session.new) self.new.member.mesh) }
         ensures session { OnErr result (session.new ≡ session.old) }
         ensures keeps { S.keeps session.old session.new }
@@ -299,8 +305,8 @@ impl Peer {
         requires played { unplayed self.old (packet_of sender (turn play.now)) ≡ None }
         requires same { packet.now ≡ packet_of sender (turn play.now) }
         requires spelled { are_spelled play.now.marks ≡ true }
-        ensures heard { IfSome result
-            (HearsTurn S.step (S.seen session.old) (S.seen session.new) self.old self.new sender (turn play.now)) }
+        ensures heard { IfSome result (HearsTurn S.step (S.seen session.old) (S.seen session.new)
+            self.old self.new sender (turn play.now)) }
         ensures tied { IsTied (S.seen session.new) self.new.member.mesh }
         ensures had { is_some result ≡ is_had (packet_of sender (turn play.now)) }
         ensures unchanged { IsNone result → self.new ≡ self.old }
@@ -331,8 +337,8 @@ impl Peer {
         requires same { packet.now ≡ packet_of sender (turn play.now) }
         requires spelled { are_spelled play.now.marks ≡ true }
         ensures heard { IfSome result (HearsPacket S.step (beside (S.seen session.old) self.old)
-            (beside (S.seen session.new) self.new) (packet_of sender (turn play.now)) play.now.words.items
-            (end_for self.old (turn play.now))) }
+            (beside (S.seen session.new) self.new) (packet_of sender (turn play.now))
+            play.now.words.items (end_for self.old (turn play.now))) }
         ensures tied { IsTied (S.seen session.new) self.new.member.mesh }
         ensures rest { IsSome result → self.new ≡ record self.old {
           member = self.new.member;
@@ -366,7 +372,8 @@ impl Peer {
         requires played { unplayed self.old (packet_of sender (turn play.now)) ≡ None }
         requires same { packet.now ≡ packet_of sender (turn play.now) }
         ensures heard { IfSome result (HearsPacket S.step (beside (S.seen session.old) self.old)
-            (beside (S.seen session.new) self.new) (packet_of sender (turn play.now)) play.now.words.items end) }
+            (beside (S.seen session.new) self.new) (packet_of sender (turn play.now))
+            play.now.words.items end) }
         ensures tied { IsTied (S.seen session.new) self.new.member.mesh }
         ensures rest { self.new ≡ record self.old { member = self.new.member } }
         ensures limits { self.new.member.limits ≡ self.old.member.limits }
@@ -385,7 +392,8 @@ impl Peer {
     fn know_turn(&mut self, sender: u8, play: &Play, frame: u32, refused: bool, dropped: bool)
         requires { sender < MACHINE_LIMIT }
         ensures { self.new ≡ knowing (turn play.now) sender
-            (after_words refused dropped play.now.head frame (moment_of self.old) (contact_at self.old sender)) self.old }
+            (after_words refused dropped play.now.head frame (moment_of self.old)
+            (contact_at self.old sender)) self.old }
     {
         let place = usize::from(sender);
         let before = self.contacts[place];

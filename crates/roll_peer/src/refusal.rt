@@ -23,9 +23,11 @@ pub enum OpenRefusal {
     NoMemory,
 }
 
-/// The session isn't this match's: its settings are others than those of the session with which the match was opened, it has of
-/// another machine's player other words than came, or somebody left it who hasn't left the match. A session that was told of
-/// others past the match is such a one from then on.
+/// The session isn't this match's: its settings are others than those of the session with which the match was opened,
+/// it has more or fewer words of another machine's player than came, it has fewer of an own player than before, or
+/// somebody left it who hasn't left the match. A session that was told of others past the match is such a one from then
+/// on. One that was exchanged for another of equal settings, with as many words of each player and the same ones gone,
+/// isn't found out.
 #[derive(Clone, Copy, Debug, PartialEq, Eq, Error)]
 #[error("the session isn't this match's")]
 pub struct OtherSession;

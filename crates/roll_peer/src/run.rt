@@ -22,9 +22,15 @@ impl Peer {
         session: &mut Session<G>,
         request: PeerRequest<G>,
     ) -> Result<PeerReply, NoMemory>
-        ensures done { IfOk result (λ reply. IsDone G.step (record { session = session.old; peer = self.old })
+        ensures done { IfOk result (λ reply. IsDone G.step (record {
+          session = session.old;
+          peer = self.old;
+        })
             (record { session = session.new; peer = self.new }) request reply) }
-        ensures short { OnErr result (IsShortOf G.step (record { session = session.old; peer = self.old })
+        ensures short { OnErr result (IsShortOf G.step (record {
+          session = session.old;
+          peer = self.old;
+        })
             (record { session = session.new; peer = self.new }) request) }
     {
         match request {
@@ -46,7 +52,8 @@ impl Peer {
     }
 
     /// Does in turn what a queue asks for, any calls of a session, datagrams and turns in any order, and adds the replies to a list
-    /// that has room for them.
+    /// that has room for them. The headline of sessions holds over all events that these stood for: the session's own,
+    /// and those of others that were heard in between.
     ///
     /// # Errors
     ///
@@ -58,7 +65,10 @@ impl Peer {
         replies: &mut Vec<PeerReply>,
     ) -> Result<(), NoMemory>
         requires { vec_len replies.old + length requests.old.items ≤ vec_capacity replies.old }
-        ensures { IsHeadline (is_ok result) G.step (record { session = session.old; peer = self.old })
+        ensures { IsHeadline (is_ok result) G.step (record {
+          session = session.old;
+          peer = self.old;
+        })
             (record { session = session.new; peer = self.new }) requests.old.items
             requests.new.items replies.old.items replies.new.items }
     {

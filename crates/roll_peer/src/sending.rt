@@ -26,7 +26,8 @@ const SETTLED_EVERY: u32 = 64;
 
 impl Peer {
     /// The bytes to send to a machine in this turn: until it has said this opening's draw who this machine takes the match's machines
-    /// to be, and then what the machine hasn't said that it has. None if there is no such machine, it is this one, or it is gone.
+    /// to be, and then what the machine hasn't said that it has, and each mark that is known here of a word that has
+    /// come. None if there is no such machine, it is this one, or it is gone.
     ///
     /// # Errors
     ///
@@ -38,8 +39,10 @@ impl Peer {
         machine: u8,
         now: u32,
     ) -> Result<Option<ArrayVec<u8, DATAGRAM_LIMIT>>, OtherSession>
-        ensures sent { IfOk result (λ sent. IfSome sent (λ bytes.
-            IsSent (S.seen session.now) (meeting (S.seen session.now) (ticking now self.old)) machine bytes.items)) }
+        ensures sent { IfOk result
+            (λ sent. IfSome sent
+            (λ bytes. IsSent (S.seen session.now)
+            (meeting (S.seen session.now) (ticking now self.old)) machine bytes.items)) }
         ensures lost { IfOk result (λ sent. is_none sent ≡ is_lost self.old machine) }
         ensures counted { OnOk result
             (self.new ≡ after_send (meeting (S.seen session.now) (ticking now self.old)) machine) }
@@ -113,8 +116,8 @@ impl Peer {
         requires place { machine < MACHINE_LIMIT }
         requires whole { is_whole (content body) ≡ true }
         ensures said { result.items ≡ text_for self.now machine (content body) }
-        ensures fits { Fits
-            (message_by (key_for self.now machine (content body)) self.now.settings.me (content body)) }
+        ensures fits { Fits (message_by (key_for self.now machine (content body))
+            self.now.settings.me (content body)) }
     {
         say(&self.key_for(machine, &body), self.settings.me, body)
     }
@@ -213,9 +216,11 @@ impl Peer {
     /// The bytes that say to a machine that this one leaves the match, and why: whatever the program means by it. Send them a few times,
     /// since they may be lost. None if there is no such machine, it is this one, it is gone, or it hasn't said this opening's draw.
     pub fn bye(&self, machine: u8, why: u8) -> Option<ArrayVec<u8, DATAGRAM_LIMIT>>
-        ensures said { IfSome result (λ bytes. bytes.items ≡ text_for self.now machine (Leaves why)) }
-        ensures fits { IfSome result (λ bytes.
-            Fits (message_by (key_for self.now machine (Leaves why)) self.now.settings.me (Leaves why))) }
+        ensures said { IfSome result (λ bytes. bytes.items ≡ text_for self.now machine
+            (Leaves why)) }
+        ensures fits { IfSome result
+            (λ bytes. Fits (message_by (key_for self.now machine (Leaves why)) self.now.settings.me
+            (Leaves why))) }
         ensures none { is_none result
             ≡ (is_lost self.now machine || not (is_playing (contact_at self.now machine).stage)) }
     {

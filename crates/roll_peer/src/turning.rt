@@ -50,13 +50,16 @@ impl Peer {
     /// Machines that were silent for too long, or held up the match, are gone from now on, the players of who is gone leave if they
     /// may, and the match begins once all machines have heard each other. If the session has come to another frame since the last
     /// poll, it is noted how far the machines are from one another. It changes nothing of a session but who has left.
+    /// As long as this machine hears too few of the others, it calls nobody gone for being silent, coming late or
+    /// holding up the match ([`PeerEvent::CutOff`]).
     ///
     /// # Errors
     ///
     /// `OtherSession` if the session isn't this match's: nothing changed then but the clock. `LogFull` or `NoMemory` if a player who
     /// is to leave is still in the session: all else is done, and the next poll tries it again.
     pub fn poll<S: Networked>(&mut self, session: &mut S, now: u32) -> Result<(), PeerRefusal>
-        ensures polled { IsPolled (S.seen session.old) (S.seen session.new) (ticking now self.old) self.new result }
+        ensures polled { IsPolled (S.seen session.old) (S.seen session.new) (ticking now self.old)
+            self.new result }
         ensures keeps { S.keeps session.old session.new }
     {
         self.clock.tick(now);
@@ -470,7 +473,8 @@ impl Peer {
     /// The players of who is gone leave, if they may. Why one who is to leave is still there, if so.
     fn part<S: Networked>(&mut self, session: &mut S) -> Option<Refusal>
         requires { IsTied (S.seen session.old) self.old.member.mesh }
-        ensures parted { IsParted (S.seen session.old) (S.seen session.new) self.old self.new result }
+        ensures parted { IsParted (S.seen session.old) (S.seen session.new) self.old self.new
+            result }
         ensures tied { IsTied (S.seen session.new) self.new.member.mesh }
         ensures keeps { S.keeps session.old session.new }
     {

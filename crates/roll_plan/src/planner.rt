@@ -92,8 +92,10 @@ impl Planner {
           last = Some (planned_roll tree.now (time_to tree.now to));
         } }
         ensures node { IsSomeAnd (state_named tree.now result.0)
-            (λ s. s.path ≡ take (longest (kept_paths tree.now) (time_to tree.now to)) (time_to tree.now to)) }
-        ensures length { result.1 ≡ tree.now.base + longest (kept_paths tree.now) (time_to tree.now to) }
+            (λ s. s.path ≡ take (longest (kept_paths tree.now) (time_to tree.now to))
+            (time_to tree.now to)) }
+        ensures length { result.1 ≡ tree.now.base + longest (kept_paths tree.now)
+            (time_to tree.now to) }
         ensures longest { All (λ s. begins_with (time_to tree.now to) s.path ≡ true
             → tree.now.base + length s.path ≤ result.1) tree.now.states }
         ensures within { result.1 ≤ to }
@@ -108,8 +110,10 @@ impl Planner {
     pub fn plan_from<S>(&mut self, tree: &Tree<S>, start: usize, from: u32, to: u32)
         requires can { CanPlan self.old.players tree.now to }
         requires start { IsSomeAnd (state_named tree.now start)
-            (λ s. s.path ≡ take (longest (kept_paths tree.now) (time_to tree.now to)) (time_to tree.now to)) }
-        requires starts { from ≡ tree.now.base + longest (kept_paths tree.now) (time_to tree.now to) }
+            (λ s. s.path ≡ take (longest (kept_paths tree.now) (time_to tree.now to))
+            (time_to tree.now to)) }
+        requires starts { from ≡ tree.now.base + longest (kept_paths tree.now)
+            (time_to tree.now to) }
         ensures { self.new ≡ record self.old {
           last = Some (planned_roll tree.now (time_to tree.now to));
         } }
@@ -160,7 +164,8 @@ impl Planner {
             (λ roll. IsClaimOf self.now.players roll claim)) }
         ensures right { IfOk result (λ claim. IsRight claim) }
         ensures made { OnOk result (is_none self.now.last ≡ false) }
-        ensures refused { IfErr result (λ why. why ≡ (if is_none self.now.last then Refusal.NoPlan else Refusal.NoMemory)) }
+        ensures refused { IfErr result (λ why. why ≡ (if is_none self.now.last then Refusal.NoPlan
+            else Refusal.NoMemory)) }
     {
         if !self.is_made {
             return Err(Refusal::NoPlan);
@@ -197,7 +202,8 @@ impl Planner {
 fn take_down<S>(taken: &mut Vec<Taken>, tree: &Tree<S>, start: usize) -> usize
     requires kept { IsKept tree.now start }
     requires room { TREE_LIMIT ≤ vec_capacity taken.old }
-    ensures paths { IsPermutation (kept_paths tree.now) (all_paths (path_named tree.now start) result taken.new.items) }
+    ensures paths { IsPermutation (kept_paths tree.now)
+        (all_paths (path_named tree.now start) result taken.new.items) }
     ensures within { result ≤ length (path_named tree.now start) + 1 }
     ensures few { length taken.new.items ≤ TREE_LIMIT }
     ensures room { TREE_LIMIT ≤ vec_capacity taken.new }
@@ -224,7 +230,8 @@ fn are_on_way<S>(tree: &Tree<S>, start: usize) -> bool
 fn take_others<S>(taken: &mut Vec<Taken>, tree: &Tree<S>, start: usize) -> usize
     requires kept { IsKept tree.now start }
     requires room { TREE_LIMIT ≤ vec_capacity taken.old }
-    ensures paths { IsPermutation (kept_paths tree.now) (all_paths (path_named tree.now start) result taken.new.items) }
+    ensures paths { IsPermutation (kept_paths tree.now)
+        (all_paths (path_named tree.now start) result taken.new.items) }
     ensures within { result ≤ length (path_named tree.now start) + 1 }
     ensures few { length taken.new.items ≤ TREE_LIMIT }
     ensures room { TREE_LIMIT ≤ vec_capacity taken.new }
@@ -287,7 +294,8 @@ fn name_passed<S>(
     requires from { from ≡ tree.now.base + length (path_named tree.now start) }
     requires differs { TREE_LIMIT ≤ vec_capacity differs.old }
     requires ranked { TREE_LIMIT ≤ vec_capacity ranked.old }
-    ensures entries { differs.new.items ≡ entries_by (marked_for tree.now from to) 0 (map (path_of tree.now.base) (in_order (kept_paths tree.now))) }
+    ensures entries { differs.new.items ≡ entries_by (marked_for tree.now from to) 0
+        (map (path_of tree.now.base) (in_order (kept_paths tree.now))) }
     ensures differs { TREE_LIMIT ≤ vec_capacity differs.new }
     ensures ranked { TREE_LIMIT ≤ vec_capacity ranked.new }
 {
@@ -305,7 +313,8 @@ fn name_differs<S>(differs: &mut Vec<Differ>, tree: &Tree<S>, passed: &[usize], 
     requires kept { All (IsKept tree.now) passed.now }
     requires few { first + length passed.now ≤ TREE_LIMIT }
     requires room { TREE_LIMIT ≤ vec_capacity differs.old }
-    ensures entries { differs.new.items ≡ entries_by (λ state name. entry_by_marks tree.now state (path_of tree.now.base (path_named tree.now name))) first passed.now }
+    ensures entries { differs.new.items ≡ entries_by (λ state name. entry_by_marks tree.now state
+        (path_of tree.now.base (path_named tree.now name))) first passed.now }
     ensures room { TREE_LIMIT ≤ vec_capacity differs.new }
 {
     differs.clear();
@@ -320,7 +329,8 @@ fn name_differs<S>(differs: &mut Vec<Differ>, tree: &Tree<S>, passed: &[usize], 
 fn entry<S>(tree: &Tree<S>, state: usize, node: usize) -> Option<Differ>
     requires kept { IsKept tree.now node }
     requires few { state < TREE_LIMIT }
-    ensures { result ≡ entry_by_marks tree.now state (path_of tree.now.base (path_named tree.now node)) }
+    ensures { result ≡ entry_by_marks tree.now state
+        (path_of tree.now.base (path_named tree.now node)) }
 {
     match tree.first_mark(node) {
         Some((frame, player)) => Some(Differ {
@@ -345,7 +355,8 @@ fn paths_of(
     requires within { on_way ≤ length way.now + 1 }
     requires rows { length way.now ≤ PATH_LIMIT }
     requires few { length taken.now ≤ TREE_LIMIT }
-    ensures { IfOk result (λ paths. paths.items ≡ map (path_of base) (in_order (all_paths way.now on_way taken.now))) }
+    ensures { IfOk result (λ paths. paths.items ≡ map (path_of base)
+        (in_order (all_paths way.now on_way taken.now))) }
 {
     let mut paths = Vec::with_capacity(alloc, taken.len() + on_way)?;
     push_spelled(&mut paths, base, way, taken);
@@ -394,8 +405,10 @@ fn copied_rows(rows: &[Row]) -> ArrayVec<Row, PATH_LIMIT>
 /// The path of a state, by the states before it and their paths, or by the way.
 fn spell(base: u32, way: &[Row], before: &[Taken], paths: &[Path], state: &Taken) -> Path
     requires same { length paths.now ≡ length before.now }
-    requires short { length (path_in way.now before.now (map (λ p. p.rows.items) paths.now) state.now) ≤ PATH_LIMIT }
-    ensures { result ≡ path_of base (path_in way.now before.now (map (λ p. p.rows.items) paths.now) state.now) }
+    requires short { length (path_in way.now before.now (map (λ p. p.rows.items) paths.now)
+        state.now) ≤ PATH_LIMIT }
+    ensures { result ≡ path_of base (path_in way.now before.now (map (λ p. p.rows.items) paths.now)
+        state.now) }
 {
     let Some(above) = &state.above else {
         return Path::new(base);

@@ -13,8 +13,10 @@ use std::cmp::Ordering;
 /// them is in the order of all.
 pub fn rank<S>(ranked: &mut Vec<usize>, tree: &Tree<S>, from: u32, to: u32) -> usize
     requires room { TREE_LIMIT ≤ vec_capacity ranked.old }
-    ensures paths { map (path_named tree.now) ranked.new.items ≡ filter (λ p. is_passed from to (path_of tree.now.base p)) (in_order (paths_of tree.now)) }
-    ensures first { result ≡ count_by (λ p. is_before from (path_of tree.now.base p)) (in_order (paths_of tree.now)) }
+    ensures paths { map (path_named tree.now) ranked.new.items ≡ filter
+        (λ p. is_passed from to (path_of tree.now.base p)) (in_order (paths_of tree.now)) }
+    ensures first { result ≡ count_by (λ p. is_before from (path_of tree.now.base p))
+        (in_order (paths_of tree.now)) }
     ensures kept { All (IsKept tree.now) ranked.new.items }
     ensures few { result + length ranked.new.items ≤ TREE_LIMIT }
     ensures room { TREE_LIMIT ≤ vec_capacity ranked.new }
@@ -28,8 +30,10 @@ pub fn rank<S>(ranked: &mut Vec<usize>, tree: &Tree<S>, from: u32, to: u32) -> u
 /// Takes down the names of the states that a plan passes over, and counts those before them in the order of paths.
 fn list_passed<S>(passed: &mut Vec<usize>, tree: &Tree<S>, from: u32, to: u32) -> usize
     requires room { TREE_LIMIT ≤ vec_capacity passed.old }
-    ensures names { passed.new.items ≡ map (λ s. s.name) (filter (λ s. is_passed from to (path_of tree.now.base s.path)) tree.now.states) }
-    ensures before { result ≡ count_by (λ s. is_before from (path_of tree.now.base s.path)) tree.now.states }
+    ensures names { passed.new.items ≡ map (λ s. s.name)
+        (filter (λ s. is_passed from to (path_of tree.now.base s.path)) tree.now.states) }
+    ensures before { result ≡ count_by (λ s. is_before from (path_of tree.now.base s.path))
+        tree.now.states }
     ensures few { result + length passed.new.items ≤ TREE_LIMIT }
     ensures room { TREE_LIMIT ≤ vec_capacity passed.new }
 {

@@ -36,9 +36,8 @@ impl<G: Game> Owner<G> {
         ensures new { IfOk result
             (λ pool. (pool.0.issued ≡ []) × (pool.0.withdrawn ≡ [])) }
         ensures capacity { IfOk result (λ pool. MOST ≤ pool.0.capacity) }
-        ensures refused { IfErr result
-            (λ why. why ≡
-            (if nat_eq workers 0 || nat_lt TEAM workers then Refusal.InvalidRequest else Refusal.NoMemory)) }
+        ensures refused { IfErr result (λ why. why ≡ (if nat_eq workers 0 || nat_lt TEAM workers
+            then Refusal.InvalidRequest else Refusal.NoMemory)) }
         ensures range { OnOk result ((1 ≤ workers) × (workers ≤ TEAM)) }
     {
         if workers == 0 || workers > WORKER_LIMIT {

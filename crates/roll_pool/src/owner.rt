@@ -109,6 +109,9 @@ impl<G: Game> Owner<G> {
     }
 
     /// The next result of the first worker, in order, that has one. `None` if no result is seen.
+    ///
+    /// The clauses say that it is the next one of some worker. That this is the first worker that has one is tested
+    /// (`tests/runs/workers.t`).
     pub fn collect(&mut self) -> Option<Done<G>>
         ensures some { IfSome result (λ done. IsCollected self.old.came self.new.came done) }
         ensures none { IfNone result (self.new ≡ self.old) }
@@ -128,6 +131,9 @@ impl<G: Game> Owner<G> {
     }
 
     /// Takes back the oldest job that no worker has taken. `None` if none is seen.
+    ///
+    /// The clauses say that the job was issued, and after those that were withdrawn before. That no worker has it or
+    /// gets it, [`settle`](Self::settle) says: it counts the job as withdrawn, and no result has its number.
     pub fn withdraw(&mut self) -> Option<Job<G>>
         ensures some { IfSome result (λ job. IsWithdrawn self.old self.new job) }
         ensures none { IfNone result
@@ -157,7 +163,8 @@ impl<G: Game> Owner<G> {
         (self.issued - self.collected - self.withdrawn) as usize
     }
 
-    /// Tells the workers to stop. Each still ends the job that it is at.
+    /// Tells the workers to stop. Each still ends the job that it is at. That a closed pool stops them is tested
+    /// (`tests/runs/workers.t`).
     pub fn close(&self) {
         self.signals.close();
     }

@@ -25,7 +25,7 @@ pub struct Outcome<G: Game> {
     pub withdrawn: u64,
     /// The results that were not collected, by worker.
     pub late: Vec<Done<G>>,
-    /// The jobs that no worker took, in the order of their numbers.
+    /// The jobs that no worker took, in the order of their numbers: the last ones that were issued.
     pub left: Vec<Job<G>>,
 }
 

@@ -15,8 +15,8 @@ use std::thread::Threads;
 /// # Errors
 ///
 /// `NoMemory` if the allocator has no room, or if a thread can't be started: the pool is closed then, and the workers
-/// that were started are joined. All ends and games are dropped, so the owner can't be settled, and results that it hasn't
-/// collected are lost with it.
+/// that were started are joined (tested in `tests/runs/faults.t`). All ends and games are dropped, so the owner can't
+/// be settled, and results that it hasn't collected are lost with it.
 pub fn start_all<R, G>(
     rt: R,
     alloc: Global,

@@ -103,8 +103,9 @@ impl<G: Game> WorkerEnd<G> {
         Worked::Did(ticket)
     }
 
-    /// Works until the pool is closed. If it finds no job for a while, it sleeps until one is issued; if its ring is full
-    /// for a while, until a result is collected. The close wakes it too.
+    /// Works until the pool is closed. If it finds no job for a while, it sleeps until one is issued; if its ring is
+    /// full for a while, until a result is collected. The close wakes it too. It returns only after a close: what it
+    /// then keeps (`Closed` in `signals.rt`), the signals of a closed pool alone make.
     pub fn serve<R: Wait>(&mut self, rt: &R, game: &mut G, gate: &impl Gate)
         ensures place { self.new.place ≡ self.old.place }
         ensures served { HasServed (record { end = self.old; counts = G.call_counts game.old })

@@ -79,9 +79,14 @@ impl Relay {
     /// machine carries. What is inside for this machine the peer hears as if it had come straight, and of what is for others at most
     /// one datagram goes on for each. It takes memory as the peer's `receive` does.
     ///
+    /// A play that is newer than all before shows that the line works, if the machine that made it sent or gave it
+    /// itself. What is for another machine is handed on unless its maker or that one is gone; a map, or what is
+    /// carried, is dropped inside of what is carried.
+    ///
     /// # Errors
     ///
-    /// Why they weren't heard. Then nothing changed but what the peer's `receive` changes.
+    /// Why they weren't heard. Then nothing changed but what the peer's `receive` changes, and nothing at all if they
+    /// were a map, or what a machine carries.
     pub fn receive<S: Networked>(
         &mut self,
         peer: &mut Peer,

@@ -117,8 +117,10 @@ impl Relay {
         )
     }
 
-    /// The next bytes that go out beside what `send` makes, and to which machine: who hears whom, and what others have had this machine
-    /// hand on, or this one others. None if there is nothing more in this turn.
+    /// The next bytes that go out beside what `send` makes, and to which machine: first who hears whom, once in a turn
+    /// to each; then what others have had this machine hand on, or this one others, of each machine the oldest first.
+    /// They are sealed by the draws of both openings; a datagram of the peer's that goes straight, and is alone, is
+    /// given as it is. None if there is nothing more in this turn.
     pub fn next(&mut self, peer: &Peer) -> Option<(u8, ArrayVec<u8, DATAGRAM_LIMIT>)>
         ensures { IsNext peer.now self.old self.new (option_map (λ x. (x.0, x.1.items)) result) }
     {

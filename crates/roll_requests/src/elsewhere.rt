@@ -145,7 +145,7 @@ impl Elsewhere {
         outcome
     }
 
-    /// Goes to the frame of a call that rolls, by requests, and answers where that led.
+    /// Goes to the frame of a call that rolls, by requests, and answers where that led. No plan runs fewer frames.
     ///
     /// # Errors
     ///
@@ -362,7 +362,8 @@ impl Elsewhere {
         self.jobs.len()
     }
 
-    /// Gives a job up, and says whether there was one of this number.
+    /// Gives a job up, and says whether there was one of this number. From now on others may get its slots, so none of
+    /// its requests may be carried out later than those after them.
     pub fn forget(&mut self, job: u32) -> bool
         ensures there { result ≡ is_some (get self.old.jobs job) }
         ensures jobs { Updates self.old.jobs self.new.jobs job None }

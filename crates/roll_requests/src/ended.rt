@@ -8,7 +8,8 @@ use roll_frame::{Event, Refusal, Row, Settings};
 use roll_session::{Call, Core, Heard, Networked, Settling, Source};
 use std::marker::Model;
 
-/// A session of a game elsewhere that has ended: what is known of its players stays, and nothing is rolled any more.
+/// A session of a game elsewhere that has ended: what is known of its players stays, what others say of them is still
+/// heard, and nothing is rolled or asked for any more.
 #[derive(Drop)]
 pub struct Ended {
     core: Core<u32>,

@@ -13,8 +13,11 @@ use roll_session::{Call, Networked};
 /// Whose words are given again: the epoch that begins, this machine's number in it, and the session of the epoch before.
 #[derive(Drop)]
 pub struct Again<'a, P> {
+    /// How the epoch that begins opens.
     pub terms: &'a Terms,
+    /// This machine's number in it.
     pub me: u8,
+    /// The session of the epoch before.
     pub past: &'a P,
 }
 
@@ -22,7 +25,9 @@ impl<P: Networked> Again<'_, P> {
     /// Gives a session that has just begun the words again that own players gave past the end of the epoch before, and runs the frames
     /// that were run past it, as far as the session takes that. Says whether it took all.
     pub fn play<S: Plays>(&self, session: &mut S, end: u32) -> bool
-        ensures { ArePlayed S.makes S.declines session.old (given_again self.now.terms.now self.now.me (P.seen self.now.past.now) end) session.new result }
+        ensures { ArePlayed S.makes S.declines session.old
+            (given_again self.now.terms.now self.now.me (P.seen self.now.past.now) end) session.new
+            result }
     {
         self.past.laws();
         let frames = self.past.frame().saturating_sub(end);
@@ -37,14 +42,18 @@ impl<P: Networked> Again<'_, P> {
     /// A frame of the epoch before once more. False if the session takes no more.
     fn run<S: Plays>(&self, session: &mut S, frame: u32) -> bool
         requires { frame ≤ FRAME_LIMIT }
-        ensures { ArePlayed S.makes S.declines session.old (frame_calls self.now.terms.now self.now.me (P.seen self.now.past.now) frame) session.new result }
+        ensures { ArePlayed S.makes S.declines session.old
+            (frame_calls self.now.terms.now self.now.me (P.seen self.now.past.now) frame)
+            session.new result }
     {
         self.give_all(session, frame) && session.make(Call::Advance)
     }
 
     fn give_all<S: Plays>(&self, session: &mut S, frame: u32) -> bool
         requires { frame ≤ FRAME_LIMIT }
-        ensures { ArePlayed S.makes S.declines session.old (words_until self.now.terms.now self.now.me (P.seen self.now.past.now) frame PLAYER_LIMIT) session.new result }
+        ensures { ArePlayed S.makes S.declines session.old
+            (words_until self.now.terms.now self.now.me (P.seen self.now.past.now) frame
+            PLAYER_LIMIT) session.new result }
     {
         for place in 0..PLAYER_LIMIT {
             if !self.give(session, frame, place) {
@@ -57,7 +66,8 @@ impl<P: Networked> Again<'_, P> {
     fn give<S: Plays>(&self, session: &mut S, frame: u32, place: usize) -> bool
         requires frame { frame ≤ FRAME_LIMIT }
         requires place { place < PLAYER_LIMIT }
-        ensures { ArePlayed S.makes S.declines session.old (word_of self.now.terms.now self.now.me (P.seen self.now.past.now) frame place) session.new result }
+        ensures { ArePlayed S.makes S.declines session.old (word_of self.now.terms.now self.now.me
+            (P.seen self.now.past.now) frame place) session.new result }
     {
         if self.terms.owners[place] != self.me {
             return true;

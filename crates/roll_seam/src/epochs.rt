@@ -93,7 +93,8 @@ impl<S: Networked + Drop> Epochs<S> {
         machine: u8,
         now: u32,
     ) -> Result<Option<ArrayVec<u8, DATAGRAM_LIMIT>>, OtherSession>
-        ensures { SendsBefore S.seen machine now self.old self.new (bytes_of (λ bytes. bytes.items) result) }
+        ensures { SendsBefore S.seen machine now self.old self.new
+            (bytes_of (λ bytes. bytes.items) result) }
     {
         match &mut self.past {
             Some(past) => past.send(machine, now),
@@ -113,9 +114,11 @@ impl<S: Networked + Drop> Epochs<S> {
 }
 
 impl Epochs<Ended> {
-    /// Goes on in the next epoch, if this one is over: the session starts anew, and so does the network. What own players gave past the
-    /// end is given again, and frames past it are run again. Answers the last requests of the session that ended: they are to be carried
-    /// out before those of the new one. None if the epoch isn't over. Marks are judged first.
+    /// Goes on in the next epoch, if this one is over: the session starts anew, with the same limit of slots, and so
+    /// does the network. What own players gave past the end is given again, and frames past it are run again, as far as
+    /// the new session takes that: the answer doesn't say how far it did. Answers the last requests of the session that
+    /// ended: they are to be carried out before those of the new one. None if the epoch isn't over. Marks are judged
+    /// first.
     ///
     /// # Errors
     ///
@@ -127,8 +130,8 @@ impl Epochs<Ended> {
         relay: &mut Option<Relay>,
         session: &mut Elsewhere,
     ) -> Result<Option<Closing>, SeamRefusal>
-        ensures { GoesOnIn self.old self.new (judged_in self.old peer.old) peer.new relay.old relay.new session.old
-            session.new result }
+        ensures { GoesOnIn self.old self.new (judged_in self.old peer.old) peer.new relay.old
+            relay.new session.old session.new result }
     {
         self.chain.judge(peer);
         self.go_on_judged(alloc, peer, relay, session)
@@ -142,7 +145,8 @@ impl Epochs<Ended> {
         relay: &mut Option<Relay>,
         session: &mut Elsewhere,
     ) -> Result<Option<Closing>, SeamRefusal>
-        ensures { GoesOnIn self.old self.new peer.old peer.new relay.old relay.new session.old session.new result }
+        ensures { GoesOnIn self.old self.new peer.old peer.new relay.old relay.new session.old
+            session.new result }
     {
         let Some(opening) = self.chain.opening(peer, session) else {
             return Ok(None);
@@ -160,7 +164,8 @@ impl Epochs<Ended> {
     /// What own players gave past the end of the epoch before is given again.
     fn play_again(&self, peer: &Peer, past: &Past<Ended>, session: &mut Elsewhere, end: u32) -> bool
         ensures { ArePlayed MakesCall DeclinesCall session.old
-            (given_again self.now.chain.terms peer.now.settings.me past.now.session.seen end) session.new result }
+            (given_again self.now.chain.terms peer.now.settings.me past.now.session.seen end)
+            session.new result }
     {
         let again = Again {
             terms: self.chain.terms(),

@@ -28,8 +28,8 @@ pub(crate) fn go_on(
     session: &mut Elsewhere,
     opening: &Opening,
 ) -> Result<(Past<Ended>, Closing), SeamRefusal>
-    ensures goes_on { IfOk result (λ it. GoesOn opening.now chain.old chain.new peer.old peer.new relay.old relay.new
-        session.old session.new it.0 it.1) }
+    ensures goes_on { IfOk result (λ it. GoesOn opening.now chain.old chain.new peer.old peer.new
+        relay.old relay.new session.old session.new it.0 it.1) }
     ensures chain { OnErr result (chain.new ≡ chain.old) }
     ensures peer { OnErr result (peer.new ≡ peer.old) }
     ensures relay { OnErr result (relay.new ≡ relay.old) }

@@ -59,7 +59,8 @@ impl<S: Networked> Past<S> {
         machine: u8,
         now: u32,
     ) -> Result<Option<ArrayVec<u8, DATAGRAM_LIMIT>>, OtherSession>
-        ensures { Sends S.seen machine now self.old self.new (bytes_of (λ bytes. bytes.items) result) }
+        ensures { Sends S.seen machine now self.old self.new
+            (bytes_of (λ bytes. bytes.items) result) }
     {
         let Past {
             peer,

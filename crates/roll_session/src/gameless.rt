@@ -39,6 +39,9 @@ use std::marker::Model;
 
 /// A session whose game runs elsewhere: what it is told of each saved state, such as where that is, it keeps beside the state's
 /// path.
+///
+/// It can't tell whether the states that it is handed are right. If each is worth what the rows up to it lead to, so is
+/// each state that it keeps, in any game.
 #[derive(Drop)]
 pub struct Core<S> {
     pub(crate) settings: Settings,

@@ -71,8 +71,11 @@ pub fn count_rerun<S>(saves: &Saves<S>, words: &[RemoteWord]) -> u32
 fn route_at(base: u32, rows: &[Row], depth: usize) -> Route
     requires within { depth ≤ length rows.now }
     requires few { length rows.now ≤ PATH_LIMIT }
-    ensures { result
-        ≡ record { path = record { base = base; rows = record { items = take depth rows.now } }; rows = record { items = take BRANCH_LIMIT (drop depth rows.now) } } }
+    ensures { result ≡ record {
+      path = record { base = base; rows = record { items = take depth rows.now } };
+      rows = record
+          { items = take BRANCH_LIMIT (drop depth rows.now) };
+    } }
 {
     let end = rows.len().min(depth + BRANCH_LIMIT);
     let mut path = Path {

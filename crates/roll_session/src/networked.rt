@@ -30,8 +30,10 @@ pub trait Networked {
     /// without, what they leave as it was.
     ghost keeps: { Self → Self → Type 0 };
 
+    /// Nothing at all keeps it.
     ghost keeps_itself: { (it : Self) → keeps it it };
 
+    /// What keeps it twice, one after the other, keeps it.
     ghost keeps_on: { (a b c : Self) → keeps a b → keeps b c → keeps a c };
 
     /// The settings that it was started with.
@@ -91,8 +93,8 @@ pub trait Networked {
         ensures heard { IfOk result (IsHeard (seen self.old) (seen self.new) player frame word) }
         ensures fresh { OnErr result
             (is_repeated (seen self.old).core.players player frame word ≡ false) }
-        ensures refused { IfErr result
-            (IsRefused (remote_refusal (seen self.old) player frame) (seen self.old) (seen self.new)) }
+        ensures refused { IfErr result (IsRefused (remote_refusal (seen self.old) player frame)
+            (seen self.old) (seen self.new)) }
         ensures keeps { keeps self.old self.new };
 
     /// A remote player leaves.
@@ -104,8 +106,8 @@ pub trait Networked {
         ensures accepted { OnOk result (disconnect_refusal (seen self.old) player ≡ None) }
         ensures taken { OnOk result (seen self.new ≡ after_disconnect (seen self.old) player) }
         ensures event { IfOk result (λ event. event ≡ DisconnectedFromPeer player) }
-        ensures refused { IfErr result
-            (IsRefused (disconnect_refusal (seen self.old) player) (seen self.old) (seen self.new)) }
+        ensures refused { IfErr result (IsRefused (disconnect_refusal (seen self.old) player)
+            (seen self.old) (seen self.new)) }
         ensures keeps { keeps self.old self.new };
 }
 

@@ -89,8 +89,8 @@ impl<S> Saves<S> {
     /// What a remote word would be answered now.
     pub fn remote_reply(&self, player: u8, frame: u32, word: u32) -> Result<Heard, Refusal>
         ensures heard { IfOk result
-            (λ heard. heard
-            ≡ (if is_repeated self.now.inputs.players player frame word then Heard.Repeated else Heard.Taken)) }
+            (λ heard. heard ≡ (if is_repeated self.now.inputs.players player frame word
+            then Heard.Repeated else Heard.Taken)) }
         ensures accepted { IfOk result
             (λ heard. heard ≡ Heard.Taken → remote_refusal self.now.inputs player frame ≡ None) }
         ensures refused { IfErr result
@@ -205,8 +205,10 @@ impl<S> Saves<S> {
         requires near { self.old.inputs.frame
             ≤ self.old.inputs.settled + self.old.inputs.threshold }
         requires room { self.old.inputs.frame < self.old.room }
-        ensures inputs { self.new.inputs
-            ≡ record self.old.inputs { frame = self.old.inputs.frame + 1; players = map with_none_given self.old.inputs.players } }
+        ensures inputs { self.new.inputs ≡ record self.old.inputs {
+          frame = self.old.inputs.frame + 1;
+          players = map with_none_given self.old.inputs.players;
+        } }
         ensures tree { self.new.tree ≡ self.old.tree }
         ensures room { self.new.room ≡ self.old.room }
     {

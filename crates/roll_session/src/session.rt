@@ -42,6 +42,10 @@ use std::marker::Model;
 use std::mem;
 
 /// A game that is run ahead on predicted inputs, and again if they were wrong.
+///
+/// Only `start`, rolls and guesses ask the game for a load, a save, a copy or an advance. A roll, of
+/// `synchronize_input` or `advance_frame`, asks for one load, also if it runs no frame, and for an advance and a save
+/// for each frame that it runs.
 #[derive(Drop)]
 pub struct Session<G: Game> {
     game: G,
@@ -81,7 +85,8 @@ impl<G: Game> Session<G> {
     ) -> Result<Session<G>, StartFault<G>>
         ensures accepted { OnOk result (start_refusal settings ≡ None) }
         ensures session { IfOk result (λ session. session ≡ first_seen settings
-            (G.snapshot_value opening) (counted Loads true (counted Copies true (G.call_counts game)))) }
+            (G.snapshot_value opening)
+            (counted Loads true (counted Copies true (G.call_counts game)))) }
         ensures refused { IfErr result (λ fault. IsWhy (start_refusal settings) fault.why) }
         ensures opening_back { IfErr result (λ fault. fault.opening ≡ opening) }
         ensures game_back { IfErr result (λ fault. IsGivenBack (start_refusal settings)
@@ -267,8 +272,9 @@ impl<G: Game> Session<G> {
         Ok(self.take_branch(branch, &route))
     }
 
-    /// A guess: if this player gave these words next. The job is to run the timeline that this would make, up to a frame,
-    /// from the deepest kept state on its way, at most 8 rows. None if all of it is kept.
+    /// A guess: if this player gave these words next. The job is to run the timeline that this would make, up to a
+    /// frame, from the deepest kept state on its way, at most 8 rows. None if all of it is kept. A guess is no event,
+    /// and isn't logged.
     ///
     /// # Errors
     ///
@@ -579,7 +585,8 @@ impl<G: Game> Session<G> {
         self.saves.board().source(player, frame)
     }
 
-    /// The state that is shown.
+    /// The state that is shown: the opening at first, then where the last roll led. Inputs and grafts don't change it.
+    /// None after a roll that the game refused, until one succeeds.
     pub fn current(&self) -> Option<&G::State>
         ensures shows { Shows G.state_value G.step self.now.opening self.now.core.shown
             (option_copied result) }
@@ -622,7 +629,8 @@ impl<G: Game> Session<G> {
         self.planner.last()
     }
 
-    /// The claim of the last roll: what was kept before it, and why it started where it did.
+    /// The claim of the last roll: what was kept before it, and why it started where it did. That it lists each path
+    /// that was kept, once, is the law `order_keeps_all`.
     ///
     /// # Errors
     ///
@@ -673,8 +681,9 @@ impl<G: Game> Session<G> {
         &self.game
     }
 
-    /// Puts another engine of the same game in the game's place, and hands out the one that was there: to take from it what it
-    /// has gathered beside its states, such as sounds to play.
+    /// Puts another engine of the same game in the game's place, and hands out the one that was there: to take from it
+    /// what it has gathered beside its states, such as sounds to play. A clause sees of an engine its counts alone:
+    /// that the new one runs from then on, and the old one comes out, is tested (`crates/test_parts/src/swap.rt`).
     pub fn swap_game(&mut self, game: G) -> G
         ensures out { G.call_counts result ≡ self.old.counts }
         ensures put { self.new ≡ record self.old { counts = G.call_counts game } }

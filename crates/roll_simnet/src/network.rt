@@ -42,7 +42,9 @@ struct Fate {
     second: Option<u32>,
 }
 
-/// The datagrams that are under way, in the order in which they were sent.
+/// The datagrams that are under way, in the order in which they were sent. Each that comes was sent: along its route,
+/// with its bytes, one tick before, or at most `Conditions::late` more (`WereSent`, which each call keeps, also one
+/// that memory ran out for).
 #[derive(Drop)]
 pub struct Network {
     conditions: Conditions,
@@ -90,11 +92,16 @@ impl Network {
         }
     }
 
-    /// Sends a datagram in a tick.
+    /// Sends a datagram in a tick: it comes once, twice or never, as is drawn.
+    ///
+    /// # Errors
+    ///
+    /// `AllocError` if the allocator has no room. One of two copies may be under way then.
     pub fn send(&mut self, route: Route, tick: u32, bytes: &[u8]) -> Result<(), AllocError>
         ensures after { OnOk result (self.new ≡ after_send route tick bytes.now self.old) }
         ensures sent { (history : List Datagram) → WereSent history self.old
-            → WereSent (history ++ record { route = route; tick = tick; bytes = bytes.now } ∷ []) self.new }
+            → WereSent (history ++ record { route = route; tick = tick; bytes = bytes.now } ∷ [])
+            self.new }
     {
         let fate = self.draw();
         self.put(route, tick, fate.first, bytes)?;
@@ -150,7 +157,8 @@ impl Network {
         ensures taken { IfSome result (λ letter. IsTaken to tick self.old letter self.new) }
         ensures sent { (history : List Datagram) → WereSent history self.old
             → IfSome result (WasSent self.old.conditions history) × WereSent history self.new }
-        ensures none { IfNone result (All (λ letter. has_come to tick letter ≡ false) self.old.letters) }
+        ensures none { IfNone result (All (λ letter. has_come to tick letter ≡ false)
+            self.old.letters) }
         ensures unchanged { IfNone result (self.new ≡ self.old) }
     {
         let place = self.place(to, tick)?;

@@ -55,8 +55,11 @@ impl Feed {
     ///
     /// `TooManySpectators` if 32 were added, those who are gone too; else `NoMemory` if the allocator has no room.
     pub fn add(&mut self) -> Result<RowReceiver, Refusal>
-        ensures added { IfOk result
-            (λ receiver. self.new ≡ self.old ++ record { ring = receiver; rows = []; taken = 0 } ∷ []) }
+        ensures added { IfOk result (λ receiver. self.new ≡ self.old ++ record {
+          ring = receiver;
+          rows = [];
+          taken = 0;
+        } ∷ []) }
         ensures place { OnOk result (length self.old < MOST) }
         ensures refused { IfErr result
             (λ why. why ≡ (if nat_le MOST
@@ -71,8 +74,9 @@ impl Feed {
         Ok(receiver)
     }
 
-    /// Sends each spectator its next settled rows, until its ring is full, and says how many it sent in all. It takes no
-    /// memory and waits for nobody. The session is to be the one whose rows were sent before.
+    /// Sends each spectator its next settled rows, until its ring is full, and says how many it sent in all. It takes
+    /// no memory and waits for nobody. The session is to be the one whose rows were sent before. That it finds the
+    /// places that became free in a ring is tested, and not proved (`tests/runs/spectators.t`).
     pub fn push<S: Settling>(&mut self, session: &S) -> u32
         ensures pushed { AllZip (IsFed (settled_rows (S.seen session.now).core)) self.old self.new }
         ensures count { sum_by (λ spectator. length spectator.rows) self.new

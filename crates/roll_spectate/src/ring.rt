@@ -100,8 +100,8 @@ impl RowSender {
 
     /// The first settled row that was not sent. None if all were.
     fn next<S: Settling>(&self, session: &S) -> Option<Row>
-        ensures { result ≡ (if nat_lt (length self.now.rows) (settled (S.seen session.now).core) then Some
-            (row_at (S.seen session.now).core.players (length self.now.rows)) else None) }
+        ensures { result ≡ (if nat_lt (length self.now.rows) (settled (S.seen session.now).core)
+            then Some (row_at (S.seen session.now).core.players (length self.now.rows)) else None) }
     {
         session.settled_row(self.count)
     }

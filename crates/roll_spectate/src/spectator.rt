@@ -55,9 +55,13 @@ impl<G: Game> Spectator<G> {
         opening: &G::Snapshot,
         receiver: RowReceiver,
     ) -> Result<Spectator<G>, SpectatorFault<G>>
-        ensures spectator { IfOk result
-            (λ spectator. spectator
-            ≡ record { opening = G.snapshot_value opening.now; rows = []; stopped = false; counts = counted Load true (G.call_counts game) }) }
+        ensures spectator { IfOk result (λ spectator. spectator ≡ record {
+          opening = G.snapshot_value opening.now;
+          rows = [];
+          stopped = false;
+          counts = counted
+              Load true (G.call_counts game);
+        }) }
         ensures refused { IfErr result (λ fault. fault.why ≡ Refusal.NoMemory) }
         ensures game_back { IfErr result
             (λ fault. G.call_counts fault.game ≡ counted Load false (G.call_counts game)) }
@@ -81,7 +85,8 @@ impl<G: Game> Spectator<G> {
         })
     }
 
-    /// Runs the next row, and says which frame this reached.
+    /// Runs the next row, and says which frame this reached. That it finds a row that was sent is tested
+    /// (`tests/runs/spectators.t`).
     ///
     /// # Errors
     ///

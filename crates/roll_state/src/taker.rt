@@ -241,7 +241,8 @@ impl Taker {
         Ok(heard)
     }
 
-    /// Hears bytes that were sealed by a key: a piece, of the machine that they name as their sender.
+    /// Hears bytes that were sealed by a key: a piece, of the machine that they name as their sender. Who has the key
+    /// may name any: so if all pairs of machines have one number, each can send pieces in another's name.
     ///
     /// # Errors
     ///

@@ -32,7 +32,12 @@ impl<R: RawGame> First<R> {
     /// The run from a state, with room for results.
     pub fn new(state: R::State, results: Vec<R::Snapshot>) -> First<R>
         requires { results.items ≡ [] }
-        ensures { result ≡ record { state = R.state_value state; rows = []; results = []; room = vec_capacity results } }
+        ensures { result ≡ record {
+          state = R.state_value state;
+          rows = [];
+          results = [];
+          room = vec_capacity results;
+        } }
     {
         First {
             state,
@@ -52,10 +57,19 @@ impl<R: RawGame> First<R> {
     pub fn run(&mut self, game: &mut R, row: &Row) -> Result<(), NoMemory>
         requires short { length self.old.rows < SYNC_TEST_LIMIT }
         requires room { length self.old.results < self.old.room }
-        ensures taken { OnOk result (self.new ≡ record self.old { state = self.new.state; rows = self.old.rows ++ row.now ∷ []; results = self.old.results ++ self.new.state ∷ [] }) }
+        ensures taken { OnOk result (self.new ≡ record self.old {
+          state = self.new.state;
+          rows = self.old.rows ++ row.now ∷ [];
+          results = self.old.results
+              ++ self.new.state ∷ [];
+        }) }
         ensures ran { OnOk result (R.ran self.old.state row.now self.new.state) }
-        ensures counts { OnOk result (R.call_counts game.new ≡ counted Save true (counted Advance true (R.call_counts game.old))) }
-        ensures refused { OnErr result ((R.call_counts game.new ≡ counted Advance false (R.call_counts game.old)) ⊎ (R.call_counts game.new ≡ counted Save false (counted Advance true (R.call_counts game.old)))) }
+        ensures counts { OnOk result (R.call_counts game.new ≡ counted Save true
+            (counted Advance true (R.call_counts game.old))) }
+        ensures refused { OnErr result
+            ((R.call_counts game.new ≡ counted Advance false (R.call_counts game.old))
+            ⊎ (R.call_counts game.new ≡ counted Save false
+            (counted Advance true (R.call_counts game.old)))) }
     {
         let result = advance_and_save(game, &mut self.state, row)?;
         self.rows.push(*row);
@@ -71,9 +85,12 @@ impl<R: RawGame> First<R> {
     ) -> Result<Rerun<R::Snapshot>, NoMemory>
         requires some { 0 < length self.now.rows }
         requires trace { IsTrace R.ran (R.snapshot_value from.now) self.now.rows self.now.results }
-        ensures rerun { IfOk result (IsRerun R.ran (R.snapshot_value from.now) self.now.rows self.now.results R.snapshot_value) }
-        ensures counts { IfOk result (λ rerun. R.call_counts game.new ≡ rolled (rerun_frames (length self.now.rows) rerun) (R.call_counts game.old)) }
-        ensures refused { OnErr result ((made : ℕ) × (made < length self.now.rows) × IsRefusedAt made (R.call_counts game.old) (R.call_counts game.new)) }
+        ensures rerun { IfOk result (IsRerun R.ran (R.snapshot_value from.now) self.now.rows
+            self.now.results R.snapshot_value) }
+        ensures counts { IfOk result (λ rerun. R.call_counts game.new ≡ rolled
+            (rerun_frames (length self.now.rows) rerun) (R.call_counts game.old)) }
+        ensures refused { OnErr result ((made : ℕ) × (made < length self.now.rows)
+            × IsRefusedAt made (R.call_counts game.old) (R.call_counts game.new)) }
     {
         run_again(game, from, self.rows.as_slice(), &self.results)
     }

@@ -23,10 +23,14 @@ pub fn run_again<R: RawGame>(
     results: &[R::Snapshot],
 ) -> Result<Rerun<R::Snapshot>, NoMemory>
     requires some { 0 < length rows.now }
-    requires trace { IsTrace R.ran (R.snapshot_value from.now) rows.now (map R.snapshot_value results.now) }
-    ensures rerun { IfOk result (IsRerun R.ran (R.snapshot_value from.now) rows.now (map R.snapshot_value results.now) R.snapshot_value) }
-    ensures counts { IfOk result (λ rerun. R.call_counts game.new ≡ rolled (rerun_frames (length rows.now) rerun) (R.call_counts game.old)) }
-    ensures refused { OnErr result ((made : ℕ) × (made < length rows.now) × IsRefusedAt made (R.call_counts game.old) (R.call_counts game.new)) }
+    requires trace { IsTrace R.ran (R.snapshot_value from.now) rows.now
+        (map R.snapshot_value results.now) }
+    ensures rerun { IfOk result (IsRerun R.ran (R.snapshot_value from.now) rows.now
+        (map R.snapshot_value results.now) R.snapshot_value) }
+    ensures counts { IfOk result (λ rerun. R.call_counts game.new ≡ rolled
+        (rerun_frames (length rows.now) rerun) (R.call_counts game.old)) }
+    ensures refused { OnErr result ((made : ℕ) × (made < length rows.now) × IsRefusedAt made
+        (R.call_counts game.old) (R.call_counts game.new)) }
 {
     let Ok(loaded) = game.load(from) else {
         return Err(NoMemory);

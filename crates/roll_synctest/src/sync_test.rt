@@ -52,10 +52,21 @@ impl<R: RawGame> SyncTest<R> {
         frames: u32,
     ) -> Result<SyncTest<R>, StartFault<R>>
         ensures accepted { OnOk result (start_refusal frames ≡ None) }
-        ensures test { IfOk result (λ test. test ≡ record { frames = frames; verified = 0; second = R.snapshot_value opening; rows = []; first = Some (R.snapshot_value opening); counts = counted Load true (R.call_counts game) }) }
-        ensures refused { IfErr result (λ fault. fault.why ≡ unwrap_or (start_refusal frames) Refusal.NoMemory) }
+        ensures test { IfOk result (λ test. test ≡ record {
+          frames = frames;
+          verified = 0;
+          second = R.snapshot_value opening;
+          rows = [];
+          first =
+              Some (R.snapshot_value opening);
+          counts = counted Load true (R.call_counts game);
+        }) }
+        ensures refused { IfErr result (λ fault. fault.why ≡ unwrap_or (start_refusal frames)
+            Refusal.NoMemory) }
         ensures opening_back { IfErr result (λ fault. fault.opening ≡ opening) }
-        ensures game_back { IfErr result (λ fault. (fault.game ≡ game) ⊎ ((start_refusal frames ≡ None) × (R.call_counts fault.game ≡ counted Load false (R.call_counts game)))) }
+        ensures game_back { IfErr result (λ fault. (fault.game ≡ game)
+            ⊎ ((start_refusal frames ≡ None)
+            × (R.call_counts fault.game ≡ counted Load false (R.call_counts game)))) }
     {
         let mut game = game;
         if frames < 1 || frames > SYNC_TEST_LIMIT as u32 {
@@ -86,9 +97,11 @@ impl<R: RawGame> SyncTest<R> {
     /// counted once; else `NoMemory` where the game refuses a call, and the test is stopped.
     pub fn step(&mut self, row: &Row) -> Result<Verdict, Refusal>
         ensures verdict { IfOk result (Says R.ran self.old self.new row.now) }
-        ensures ran { OnOk result ((x y : Value) → self.old.first ≡ Some x → self.new.first ≡ Some y → R.ran x row.now y) }
+        ensures ran { OnOk result ((x y : Value) → self.old.first ≡ Some x → self.new.first ≡ Some y
+            → R.ran x row.now y) }
         ensures accepted { OnOk result (step_refusal self.old ≡ None) }
-        ensures refused { IfErr result (λ why. why ≡ unwrap_or (step_refusal self.old) Refusal.NoMemory) }
+        ensures refused { IfErr result
+            (λ why. why ≡ unwrap_or (step_refusal self.old) Refusal.NoMemory) }
         ensures unchanged { IsSome (step_refusal self.old) → self.new ≡ self.old }
         ensures cut { OnErr result (step_refusal self.old ≡ None → IsCut self.old self.new) }
     {

@@ -7,6 +7,7 @@ pub enum Verdict {
     Run,
     /// So many frames came out the same twice, in all.
     Verified(u32),
-    /// The first frame, counted from 0, that came out different. The test is stopped.
+    /// The first frame, counted from 0, that came out different. The test is stopped. No `Game` comes to this, by the
+    /// law `never_diverges`.
     Mismatch(u32),
 }

@@ -23,7 +23,8 @@ pub fn number(text: &[u8]) -> Option<u32>
     if rest.is_empty() { Some(n) } else { None }
 }
 
-/// The number that the digits at the beginning of a text spell, all of them, and what follows.
+/// The number that the digits at the beginning of a text spell, all of them, and what follows. None if there is no
+/// digit, if a zero leads others, or if the number has over 32 bits.
 #[inline(always)]
 pub fn leading_number(text: &[u8]) -> Option<(u32, &[u8])>
     ensures { CutsNumber text.now (option_map (λ cut. (cut.0, cut.1.now)) result) }
@@ -47,7 +48,10 @@ pub fn leading_number(text: &[u8]) -> Option<(u32, &[u8])>
 /// The value of the digits at the beginning of a text, and how many there are. None where they are too many.
 #[inline(always)]
 fn leading_digits(text: &[u8]) -> Option<(u64, usize)>
-    ensures { MatchOption result (AreDigits (DIGIT_LIMIT + 1) text.now) (λ found. (found.1 ≤ DIGIT_LIMIT) × AreDigits found.1 text.now × LacksDigit (drop found.1 text.now) × (found.0 ≡ digits_value 10 (take found.1 text.now))) }
+    ensures { MatchOption result (AreDigits (DIGIT_LIMIT + 1) text.now)
+        (λ found. (found.1 ≤ DIGIT_LIMIT) × AreDigits found.1 text.now
+        × LacksDigit (drop found.1 text.now)
+        × (found.0 ≡ digits_value 10 (take found.1 text.now))) }
 {
     let mut n = 0;
     for count in 0..text.len() {

@@ -16,9 +16,10 @@ pub fn split_line(text: &[u8]) -> Option<(&[u8], &[u8])>
     Some((&text[..end], &text[end + 1..]))
 }
 
-/// The fields of a line, which lie between separators.
+/// The fields of a line, which lie between separators: one at least, if an empty one.
 pub fn fields<'a>(alloc: Global, line: &'a [u8], separator: u8) -> Result<Vec<&'a [u8]>, AllocError>
-    ensures { IfOk result (λ fields. map (λ field. field.now) fields.items ≡ slice_split (λ b. b == separator) line.now) }
+    ensures { IfOk result (λ fields. map (λ field. field.now) fields.items ≡ slice_split
+        (λ b. b == separator) line.now) }
 {
     line.split(|b| *b == separator).collect(alloc)
 }
@@ -26,7 +27,8 @@ pub fn fields<'a>(alloc: Global, line: &'a [u8], separator: u8) -> Result<Vec<&'
 /// The fields of a line, which lie between separators. None where there are more than `N`.
 pub fn few_fields<const N: usize>(line: &[u8], separator: u8) -> Option<ArrayVec<&[u8], N>>
     ensures variant { IsSome result ↔ (length (slice_split (λ b. b == separator) line.now) ≤ N) }
-    ensures value { IfSome result (λ fields. map (λ field. field.now) fields.items ≡ slice_split (λ b. b == separator) line.now) }
+    ensures value { IfSome result (λ fields. map (λ field. field.now) fields.items ≡ slice_split
+        (λ b. b == separator) line.now) }
 {
     let mut fields = ArrayVec::new();
     let Ok(()) = fields.extend(line.split(|b| *b == separator)) else {

@@ -12,7 +12,8 @@ use std::alloc::{AllocError, Global};
 
 /// The numbers that the text spells, with a comma between each two.
 pub fn numbers(alloc: Global, text: &[u8]) -> Result<Option<Vec<u32>>, AllocError>
-    ensures { IfOk result (λ list. Reads IsList list_of text.now (option_map (λ list. list.items) list)) }
+    ensures { IfOk result
+        (λ list. Reads IsList list_of text.now (option_map (λ list. list.items) list)) }
 {
     let parts = fields(alloc, text, b',')?;
     let mut numbers = Vec::new(alloc);

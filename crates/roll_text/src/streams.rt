@@ -45,10 +45,13 @@ pub struct WriteFault;
 /// All that a reader has, but at most one byte over the limit. Room for that is taken at once, and not touched before it is
 /// needed.
 fn read_front<R: Read>(alloc: Global, reader: &mut R) -> Result<Vec<u8>, ReadFault>
-    ensures taken { IfOk result (λ text. Consumes (R.remaining reader.old) (R.remaining reader.new) text.items) }
+    ensures taken { IfOk result (λ text. Consumes (R.remaining reader.old) (R.remaining reader.new)
+        text.items) }
     ensures bounded { IfOk result (λ text. length text.items ≤ TEXT_LIMIT + 1) }
-    ensures end { IfOk result (λ text. length text.items ≤ TEXT_LIMIT → IsAtEnd (R.remaining reader.new)) }
-    ensures err { IfErr result (λ fault. LosesAt fault (R.remaining reader.old) (R.remaining reader.new)) }
+    ensures end { IfOk result (λ text. length text.items ≤ TEXT_LIMIT
+        → IsAtEnd (R.remaining reader.new)) }
+    ensures err { IfErr result (λ fault. LosesAt fault (R.remaining reader.old)
+        (R.remaining reader.new)) }
 {
     let mut text = Vec::with_capacity(alloc, TEXT_LIMIT + 1)?;
     let mut buffer = [0; PIECE];
@@ -65,14 +68,24 @@ fn read_front<R: Read>(alloc: Global, reader: &mut R) -> Result<Vec<u8>, ReadFau
     Ok(text)
 }
 
-/// All that a reader has. Of an input that is too long, one byte over the limit is taken.
+/// All that a reader has, in room for `TEXT_LIMIT` bytes and one that is taken at once. Of an input that is too long,
+/// one byte over the limit is taken.
+///
+/// # Errors
+///
+/// `TooLong` if there are over `TEXT_LIMIT` bytes; `NoMemory` if the allocator has no room; `Read` if the reader fails.
+/// What was read by then is gone from the reader.
 pub fn read_all<R: Read>(alloc: Global, reader: &mut R) -> Result<Vec<u8>, ReadFault>
-    ensures all { IfOk result (λ text. IfSome (R.remaining reader.old) (λ known. text.items ≡ known)) }
-    ensures taken { IfOk result (λ text. Consumes (R.remaining reader.old) (R.remaining reader.new) text.items) }
+    ensures all { IfOk result (λ text. IfSome (R.remaining reader.old)
+        (λ known. text.items ≡ known)) }
+    ensures taken { IfOk result (λ text. Consumes (R.remaining reader.old) (R.remaining reader.new)
+        text.items) }
     ensures end { OnOk result (IsAtEnd (R.remaining reader.new)) }
     ensures short { IfOk result (λ text. length text.items ≤ TEXT_LIMIT) }
-    ensures long { result ≡ Err TooLong → IfSome (R.remaining reader.old) (λ known. TEXT_LIMIT < length known) }
-    ensures err { IfErr result (λ fault. LosesAt fault (R.remaining reader.old) (R.remaining reader.new)) }
+    ensures long { result ≡ Err TooLong → IfSome (R.remaining reader.old)
+        (λ known. TEXT_LIMIT < length known) }
+    ensures err { IfErr result (λ fault. LosesAt fault (R.remaining reader.old)
+        (R.remaining reader.new)) }
 {
     let text = read_front(alloc, reader)?;
     if text.len() > TEXT_LIMIT {
@@ -81,10 +94,15 @@ pub fn read_all<R: Read>(alloc: Global, reader: &mut R) -> Result<Vec<u8>, ReadF
     Ok(text)
 }
 
-/// Writes the whole text.
+/// Writes the whole text, in as many writes as the writer needs.
+///
+/// # Errors
+///
+/// `WriteFault` if the writer fails or takes nothing: it has a part from the front.
 pub fn write_all<W: Write>(writer: &mut W, text: &[u8]) -> Result<(), WriteFault>
     ensures ok { OnOk result (Appends (W.contents writer.old) (W.contents writer.new) text.now) }
-    ensures err { OnErr result (AppendsPart (W.contents writer.old) (W.contents writer.new) text.now) }
+    ensures err { OnErr result (AppendsPart (W.contents writer.old) (W.contents writer.new)
+        text.now) }
 {
     let mut at = 0;
     while at < text.len() {

@@ -35,9 +35,11 @@ pub fn mark_next<S>(
     requires short { length time.now < PATH_LIMIT }
     requires linked { AreLinked base nodes.old.slots }
     requires ordered { AreOrdered nodes.old.slots [] order.now }
-    requires listed { (name : ℕ) (node : Node S) → node_at nodes.old.slots name ≡ Some node → has_name order.now name ≡ true }
+    requires listed { (name : ℕ) (node : Node S) → node_at nodes.old.slots name ≡ Some node
+        → has_name order.now name ≡ true }
     requires fresh { AreFresh base time.now nodes.old.slots }
-    requires tall { (name : ℕ) (node : Node S) → node_at nodes.old.slots name ≡ Some node → node.end ≤ tip }
+    requires tall { (name : ℕ) (node : Node S) → node_at nodes.old.slots name ≡ Some node
+        → node.end ≤ tip }
     ensures like { AreLike nodes.old.slots nodes.new.slots }
     ensures fresh { AreFresh base (time.now ++ row.now ∷ []) nodes.new.slots }
     ensures len { slab_len nodes.new ≡ slab_len nodes.old }
@@ -87,7 +89,8 @@ fn marked(marks: u8, place: usize, row: &Row, there: &Row) -> u8
 
 /// The least player, from 1, who has a mark.
 pub fn least_marked(marks: u8) -> Option<u8>
-    ensures { (there : Option (List Cell)) (row : List Cell) → AreMarks there row marks → result ≡ option_and_then (place_of row) there }
+    ensures { (there : Option (List Cell)) (row : List Cell) → AreMarks there row marks
+        → result ≡ option_and_then (place_of row) there }
 {
     if marks == 0 {
         return None;
@@ -111,7 +114,8 @@ impl Change {
     pub fn mark_all<S>(&self, nodes: &mut Slab<Node<S>>, order: &[usize], old: &[Row], new: &[Row])
         requires linked { AreLinked self.now.base nodes.old.slots }
         requires ordered { AreOrdered nodes.old.slots [] order.now }
-        requires listed { (name : ℕ) (node : Node S) → node_at nodes.old.slots name ≡ Some node → has_name order.now name ≡ true }
+        requires listed { (name : ℕ) (node : Node S) → node_at nodes.old.slots name ≡ Some node
+            → has_name order.now name ≡ true }
         requires fresh { AreFresh self.now.base old.now nodes.old.slots }
         requires long { length old.now ≤ length new.now }
         requires same { AreSameBut self.now.player self.now.from self.now.base old.now new.now }
@@ -133,7 +137,8 @@ impl Change {
     // The marks of an edge that ends at a frame.
     fn marks(&self, end: u32, edge: &Edge, old: &[Row], new: &[Row]) -> u8
         requires below { self.now.base < end }
-        requires fresh { AreMarks (slice_get old.now (end - self.now.base - 1)) edge.now.row edge.now.marks }
+        requires fresh { AreMarks (slice_get old.now (end - self.now.base - 1)) edge.now.row
+            edge.now.marks }
         requires long { length old.now ≤ length new.now }
         requires same { AreSameBut self.now.player self.now.from self.now.base old.now new.now }
         ensures { AreMarks (slice_get new.now (end - self.now.base - 1)) edge.now.row result }

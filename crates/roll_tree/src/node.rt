@@ -49,7 +49,9 @@ impl<S> Node<S> {
 /// Gives a node another edge, or makes it a root.
 pub fn set_edge<S>(nodes: &mut Slab<Node<S>>, name: usize, edge: Option<Edge>)
     requires { IsSome (get nodes.old name) }
-    ensures changed { IsSomeAnd (get nodes.old name) (λ was. get nodes.new name ≡ Some (record was { edge = edge })) }
+    ensures changed { IsSomeAnd (get nodes.old name) (λ was. get nodes.new name ≡ Some (record was {
+      edge = edge;
+    })) }
     ensures others { (other : ℕ) → other ≢ name → get nodes.new other ≡ get nodes.old other }
     ensures len { slab_len nodes.new ≡ slab_len nodes.old }
     ensures capacity { nodes.new.capacity ≡ nodes.old.capacity }
@@ -60,7 +62,9 @@ pub fn set_edge<S>(nodes: &mut Slab<Node<S>>, name: usize, edge: Option<Edge>)
 /// Gives a node's edge these marks. Nothing is written where it has them.
 pub fn set_marks<S>(nodes: &mut Slab<Node<S>>, name: usize, edge: Edge, marks: u8)
     requires { IsSomeAnd (get nodes.old name) (λ was. was.edge ≡ Some edge) }
-    ensures changed { IsSomeAnd (get nodes.old name) (λ was. get nodes.new name ≡ Some (record was { edge = Some (record edge { marks = marks }) })) }
+    ensures changed { IsSomeAnd (get nodes.old name) (λ was. get nodes.new name ≡ Some (record was {
+      edge = Some (record edge { marks = marks });
+    })) }
     ensures others { (other : ℕ) → other ≢ name → get nodes.new other ≡ get nodes.old other }
     ensures len { slab_len nodes.new ≡ slab_len nodes.old }
     ensures capacity { nodes.new.capacity ≡ nodes.old.capacity }

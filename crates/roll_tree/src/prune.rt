@@ -44,7 +44,8 @@ impl Rule {
 
     /// Whether a node hangs by an edge that may stay.
     fn allows_edge<S>(&self, node: &Node<S>) -> bool
-        ensures { result ≡ option_map_or (λ e. allows self.now node.now.end e.row) node.now.edge false }
+        ensures { result ≡ option_map_or (λ e. allows self.now node.now.end e.row) node.now.edge
+            false }
     {
         match &node.edge {
             Some(edge) => self.allows(node.end, &edge.row),
@@ -58,7 +59,8 @@ impl Rule {
 /// The names are those of all nodes, each after its parent's: so a node goes where its parent has gone.
 pub fn prune<S: Drop>(nodes: &mut Slab<Node<S>>, order: &mut Vec<usize>, top: usize, rule: &Rule)
     requires { AreOrdered nodes.old.slots [] order.old.items }
-    ensures pruned { (live : ℕ → Bool) → IsLive top rule.now nodes.old.slots live → IsPruned live nodes.old nodes.new order.old.items order.new.items }
+    ensures pruned { (live : ℕ → Bool) → IsLive top rule.now nodes.old.slots live
+        → IsPruned live nodes.old nodes.new order.old.items order.new.items }
     ensures capacity { nodes.new.capacity ≡ nodes.old.capacity }
     ensures space { vec_capacity order.new ≡ vec_capacity order.old }
 {
@@ -72,7 +74,8 @@ pub fn prune<S: Drop>(nodes: &mut Slab<Node<S>>, order: &mut Vec<usize>, top: us
 /// Whether all nodes stay. In most calls of `cut` they do, and nothing is written then.
 fn keeps_all<S>(nodes: &Slab<Node<S>>, order: &[usize], top: usize, rule: &Rule) -> bool
     requires { AreOrdered nodes.now.slots [] order.now }
-    ensures { (live : ℕ → Bool) → IsLive top rule.now nodes.now.slots live → result ≡ list_all live order.now }
+    ensures { (live : ℕ → Bool) → IsLive top rule.now nodes.now.slots live
+        → result ≡ list_all live order.now }
 {
     for name in order {
         if *name == top {
@@ -88,8 +91,12 @@ fn keeps_all<S>(nodes: &Slab<Node<S>>, order: &[usize], top: usize, rule: &Rule)
 
 fn take_out<S: Drop>(nodes: &mut Slab<Node<S>>, order: &[usize], top: usize, rule: &Rule)
     requires { AreOrdered nodes.old.slots [] order.now }
-    ensures nodes { (live : ℕ → Bool) → IsLive top rule.now nodes.old.slots live → (name : ℕ) → get nodes.new name ≡ (if has_name order.now name && not (live name) then None else get nodes.old name) }
-    ensures counted { (live : ℕ → Bool) → IsLive top rule.now nodes.old.slots live → slab_len nodes.new + length order.now ≡ slab_len nodes.old + length (filter live order.now) }
+    ensures nodes { (live : ℕ → Bool) → IsLive top rule.now nodes.old.slots live → (name : ℕ)
+        → get nodes.new name ≡ (if has_name order.now name && not (live name) then None
+        else get nodes.old name) }
+    ensures counted { (live : ℕ → Bool) → IsLive top rule.now nodes.old.slots live
+        → slab_len nodes.new + length order.now ≡ slab_len nodes.old + length
+        (filter live order.now) }
     ensures capacity { nodes.new.capacity ≡ nodes.old.capacity }
 {
     for name in order {
@@ -102,7 +109,9 @@ fn take_out<S: Drop>(nodes: &mut Slab<Node<S>>, order: &[usize], top: usize, rul
 /// Whether a node is the top, or hangs by an edge that the rule allows below a node that is still there.
 fn stays<S>(nodes: &Slab<Node<S>>, name: usize, top: usize, rule: &Rule) -> bool
     requires { IsSome (get nodes.now name) }
-    ensures { (node : Node S) → get nodes.now name ≡ Some node → result ≡ (nat_eq name top || option_map_or (λ e. is_some (get nodes.now e.parent) && allows rule.now node.end e.row) node.edge false) }
+    ensures { (node : Node S) → get nodes.now name ≡ Some node
+        → result ≡ (nat_eq name top || option_map_or
+        (λ e. is_some (get nodes.now e.parent) && allows rule.now node.end e.row) node.edge false) }
 {
     if name == top {
         return true;

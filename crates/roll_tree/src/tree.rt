@@ -14,7 +14,8 @@ use slab::Slab;
 use std::alloc::{AllocError, AllocFailed, Global};
 use std::marker::Model;
 
-/// The saved states that can still matter, each named by a key, below one root.
+/// The saved states that can still matter, each named by a key, below one root. A clause sees them in the order in
+/// which they came, each with its name, its snapshot, and its path from the root's frame on.
 #[derive(Drop)]
 pub struct Tree<S> {
     base: u32,
@@ -69,7 +70,11 @@ impl<S> Tree<S> {
     where
         S: Drop,
         ensures base { IfOk result (λ t. t.base ≡ base) }
-        ensures alone { IfOk result (λ t. t.states ≡ record { name = t.root; path = []; snapshot = root } ∷ []) }
+        ensures alone { IfOk result (λ t. t.states ≡ record {
+          name = t.root;
+          path = [];
+          snapshot = root;
+        } ∷ []) }
         ensures time { IfOk result (λ t. t.time ≡ []) }
         ensures returned { IfErr result (λ failed. failed.value ≡ root) }
     {
@@ -141,7 +146,12 @@ impl<S> Tree<S> {
         ensures unchanged { OnErr result (self.new ≡ self.old) }
         ensures returned { IfErr result (λ full. full.snapshot ≡ snapshot) }
         ensures vacant { IfOk result (λ name. state_named self.old name ≡ None) }
-        ensures added { IfOk result (λ name. IfSome (state_named self.old parent) (λ s. self.new ≡ with_state self.old (record { name = name; path = s.path ++ row ∷ []; snapshot = snapshot }))) }
+        ensures added { IfOk result (λ name. IfSome (state_named self.old parent)
+            (λ s. self.new ≡ with_state self.old (record {
+              name = name;
+              path = s.path ++ row ∷ [];
+              snapshot = snapshot;
+            }))) }
     {
         if self.order.len() == TREE_LIMIT {
             return Err(TreeFull { snapshot });
@@ -184,7 +194,8 @@ impl<S> Tree<S> {
     /// The length of a kept state's path, from frame 0.
     pub fn end(&self, node: usize) -> u32
         requires { IsSome (state_named self.now node) }
-        ensures { option_map (λ s. self.now.base + length s.path) (state_named self.now node) ≡ Some result }
+        ensures { option_map (λ s. self.now.base + length s.path) (state_named self.now node) ≡ Some
+            result }
     {
         self.nodes[node].end
     }
@@ -193,7 +204,8 @@ impl<S> Tree<S> {
     pub fn path(&self, node: usize) -> Path
         requires { IsSome (state_named self.now node) }
         ensures base { result.base ≡ self.now.base }
-        ensures rows { option_map (λ s. s.path) (state_named self.now node) ≡ Some result.rows.items }
+        ensures rows { option_map (λ s. s.path) (state_named self.now node) ≡ Some
+            result.rows.items }
     {
         let mut rows = ArrayVec::new();
         let mut at = node;
@@ -210,7 +222,8 @@ impl<S> Tree<S> {
 
     /// The deepest kept state on the way that these rows go from the base, and its length, from frame 0.
     pub fn longest(&self, rows: &[Row]) -> (usize, u32)
-        ensures node { IsSomeAnd (state_named self.now result.0) (λ s. s.path ≡ take (longest_of (paths_of self.now) rows.now) rows.now) }
+        ensures node { IsSomeAnd (state_named self.now result.0)
+            (λ s. s.path ≡ take (longest_of (paths_of self.now) rows.now) rows.now) }
         ensures length { result.1 ≡ self.now.base + longest_of (paths_of self.now) rows.now }
     {
         let mut best = self.root;
@@ -266,8 +279,11 @@ impl<S> Tree<S> {
     pub fn deepest(&self, to: u32) -> (usize, u32)
         requires from { self.now.base ≤ to }
         requires known { to ≤ self.now.base + length self.now.time }
-        ensures node { IsSomeAnd (state_named self.now result.0) (λ s. s.path ≡ take (longest_of (paths_of self.now) (time_to self.now to)) (time_to self.now to)) }
-        ensures length { result.1 ≡ self.now.base + longest_of (paths_of self.now) (time_to self.now to) }
+        ensures node { IsSomeAnd (state_named self.now result.0)
+            (λ s. s.path ≡ take (longest_of (paths_of self.now) (time_to self.now to))
+            (time_to self.now to)) }
+        ensures length { result.1 ≡ self.now.base + longest_of (paths_of self.now)
+            (time_to self.now to) }
     {
         let mut best = self.root;
         let mut end = self.base;
@@ -287,7 +303,8 @@ impl<S> Tree<S> {
     /// from 1, whose cells differ there.
     pub fn first_mark(&self, node: usize) -> Option<(u32, u8)>
         requires { IsSome (state_named self.now node) }
-        ensures { option_map (λ s. least_place self.now.base s.path self.now.time) (state_named self.now node) ≡ Some result }
+        ensures { option_map (λ s. least_place self.now.base s.path self.now.time)
+            (state_named self.now node) ≡ Some result }
     {
         let mut first = None;
         let mut at = node;
@@ -303,7 +320,8 @@ impl<S> Tree<S> {
     /// The kept state of a path.
     pub fn find(&self, path: &Path) -> Option<usize>
         requires { path.now.base ≡ self.now.base }
-        ensures found { IfSome result (λ name. IsSomeAnd (state_named self.now name) (λ s. s.path ≡ path.now.rows.items)) }
+        ensures found { IfSome result (λ name. IsSomeAnd (state_named self.now name)
+            (λ s. s.path ≡ path.now.rows.items)) }
         ensures when { is_some result ≡ contains (paths_of self.now) path.now.rows.items }
     {
         let (node, end) = self.longest(path.rows.as_slice());
@@ -321,9 +339,11 @@ impl<S> Tree<S> {
         requires base { to.now.base ≡ self.old.base }
         requires kept { contains (paths_of self.old) to.now.rows.items ≡ true }
         ensures base { self.new.base ≡ frames_of to.now }
-        ensures root { IsSomeAnd (state_named self.old self.new.root) (λ s. s.path ≡ to.now.rows.items) }
+        ensures root { IsSomeAnd (state_named self.old self.new.root)
+            (λ s. s.path ≡ to.now.rows.items) }
         ensures time { self.new.time ≡ drop (length to.now.rows.items) self.old.time }
-        ensures states { self.new.states ≡ map (later (length to.now.rows.items)) (filter (λ s. begins_with s.path to.now.rows.items) self.old.states) }
+        ensures states { self.new.states ≡ map (later (length to.now.rows.items))
+            (filter (λ s. begins_with s.path to.now.rows.items) self.old.states) }
     {
         let Some(top) = self.find(to) else {
             unreachable!();
@@ -336,7 +356,14 @@ impl<S> Tree<S> {
     where
         S: Drop,
         requires { IsSome (state_named self.old node) }
-        ensures { IfSome (state_named self.old node) (λ s. self.new ≡ record { base = self.old.base + length s.path; root = node; time = drop (length s.path) self.old.time; states = map (later (length s.path)) (filter (λ u. begins_with u.path s.path) self.old.states) }) }
+        ensures { IfSome (state_named self.old node) (λ s. self.new ≡ record {
+          base = self.old.base + length s.path;
+          root = node;
+          time = drop (length s.path)
+              self.old.time;
+          states = map (later (length s.path))
+              (filter (λ u. begins_with u.path s.path) self.old.states);
+        }) }
     {
         if node == self.root {
             return;
@@ -354,7 +381,10 @@ impl<S> Tree<S> {
     where
         S: Drop,
         requires { self.old.base ≤ frame }
-        ensures { self.new ≡ record self.old { states = filter (λ s. not (has_other player (frame - self.old.base) cell s.path)) self.old.states } }
+        ensures { self.new ≡ record self.old {
+          states = filter (λ s. not (has_other player (frame - self.old.base) cell s.path))
+              self.old.states;
+        } }
     {
         if frame >= self.tip {
             return;
@@ -368,7 +398,8 @@ impl<S> Tree<S> {
 
     /// The paths of all kept states, in their order.
     pub fn kept(&self, alloc: Global) -> Result<Vec<Path>, AllocError>
-        ensures { IfOk result (λ paths. paths.items ≡ map (path_of self.now.base) (in_order (paths_of self.now))) }
+        ensures { IfOk result (λ paths. paths.items ≡ map (path_of self.now.base)
+            (in_order (paths_of self.now))) }
     {
         let mut paths = Vec::with_capacity(alloc, self.order.len())?;
         for name in &self.order {

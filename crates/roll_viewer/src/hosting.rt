@@ -74,7 +74,8 @@ impl ViewerLine {
         ensures accepted { OnOk result
             (ignored_by_host self.old (opened self.old.line VIEWER_END bytes.now) ≡ None) }
         ensures ignored { IfErr result
-            (λ why. ignored_by_host self.old (opened self.old.line VIEWER_END bytes.now) ≡ Some why) }
+            (λ why. ignored_by_host self.old (opened self.old.line VIEWER_END bytes.now) ≡ Some
+            why) }
         ensures rest { IfErr result (λ why. self.new ≡ record self.old {
           line = after_refusal
               self.old.line now why (opened self.old.line VIEWER_END bytes.now);
@@ -173,7 +174,8 @@ impl ViewerLine {
         self.line.bye(host)
     }
 
-    /// How many rows the viewer has said that it has, of those that it was told.
+    /// How many rows the viewer has said that it has, of those that it was told: of a play the least of its counts. It
+    /// never falls.
     pub fn had(&self) -> u32
         ensures had { result ≡ self.now.had }
         ensures told { result ≤ self.now.told }

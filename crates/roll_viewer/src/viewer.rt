@@ -70,7 +70,7 @@ impl Viewer {
     }
 
     /// Hears bytes that came from the host, at a moment. Of the rows that they tell those are taken in that the viewer lacks, until
-    /// 64 wait: how many these were. The others come again.
+    /// 64 wait, or as many came as a session has frames: how many these were. The others come again.
     ///
     /// # Errors
     ///
@@ -132,8 +132,9 @@ impl Viewer {
         self.rows.pop()
     }
 
-    /// Sends a `Spectator` the rows that wait, by the ring that [`open_ring`](roll_spectate::open_ring) made, until that is full,
-    /// and says how many. The ring is to be one by which nothing else is sent.
+    /// Sends a `Spectator` the rows that wait, by the ring that [`open_ring`](roll_spectate::open_ring) made, until
+    /// that is full, or was sent as many as a session has frames, and says how many. The ring is to be one by which
+    /// nothing else is sent.
     pub fn hand_to(&mut self, sender: &mut RowSender) -> u32
         ensures rows { IsHandedOn self.old.rows self.new.rows sender.old sender.new result }
         ensures rest { self.new ≡ record self.old { rows = self.new.rows } }

@@ -11,7 +11,8 @@ const RUN: u64 = 64;
 /// How many runs a window has places for: numbers within reach of one another touch 17 runs at most.
 pub const PLACES: usize = 17;
 
-/// Which numbers were taken, of those that are not too old. A window of zeros has taken none.
+/// Which numbers were taken, of those that are not too old. A window of zeros has taken none. What it has of older ones
+/// doesn't matter: they are never taken.
 #[derive(Clone, Copy, Debug)]
 #[repr(C)]
 pub struct Window {

@@ -1,4 +1,7 @@
 //! Datagrams of a match as bytes: one text for each datagram, and no other text is read. Takes no memory.
+//!
+//! `docs/WIRE.md` has the bytes. Its examples, which another program wrote, are read and written as they stand there:
+//! that is tested (`tests/c/wire.c`).
 #![tactic(auto)]
 
 mod datagram;

@@ -421,7 +421,8 @@ pub(crate) fn has_any(places: &[bool; PLAYER_LIMIT]) -> bool
 /// A player's new delay, if its place says that there is one.
 #[tactic(auto, unfolding(crate::specs::Reading::within_at))]
 fn player_delay_of(is_there: bool, bytes: &[u8]) -> Result<(Option<u8>, &[u8]), WireFault>
-    ensures { Gives (λ x. (x.0, x.1.now)) result (place_at None (within_at byte_at) is_there bytes.now) }
+    ensures { Gives (λ x. (x.0, x.1.now)) result (place_at None (within_at byte_at) is_there
+        bytes.now) }
 {
     if !is_there {
         return Ok((None, bytes));
@@ -471,7 +472,8 @@ fn marked_of(bytes: &[u8]) -> Result<(Marked, &[u8]), WireFault>
 /// The mark of a player's word, if its place says that there is one.
 #[tactic(auto, unfolding(crate::specs::Reading::within_at))]
 fn player_mark_of(is_there: bool, bytes: &[u8]) -> Result<(Option<Marked>, &[u8]), WireFault>
-    ensures { Gives (λ x. (x.0, x.1.now)) result (place_at None (within_at marked_at) is_there bytes.now) }
+    ensures { Gives (λ x. (x.0, x.1.now)) result (place_at None (within_at marked_at) is_there
+        bytes.now) }
 {
     if !is_there {
         return Ok((None, bytes));

@@ -482,8 +482,8 @@ fn put_words(out: &mut Bytes, words: &[u32])
 fn put_play(out: &mut Bytes, play: &Play)
     requires whole { is_turn (turn play.now) ≡ true }
     requires room { length out.old.items + (329 + 6 * WORD_LIMIT) ≤ DATAGRAM_LIMIT }
-    ensures items { out.new.items
-        ≡ out.old.items ++ (head play.now.head ++ (marks play.now.marks ++ runs play.now.words.items)) }
+    ensures items { out.new.items ≡ out.old.items
+        ++ (head play.now.head ++ (marks play.now.marks ++ runs play.now.words.items)) }
     ensures fits { IsTurn (turn play.now) }
 {
     put_head(out, &play.head);

@@ -64,11 +64,15 @@ pub fn read<'a>(
     words: &'a [String],
     script: &'a str,
 ) -> Result<CommandLine<'a>, Error>
-    ensures request { IfOk result (λ line. asked_of line.request ≡ asked_by (map string_bytes words.now)) }
-    ensures picture { IfOk result (λ line. picture_of line.picture ≡ picture_by (map string_bytes words.now)) }
-    ensures options { IfOk result (λ line. HasOptions (rows_by (map string_bytes words.now)) line.request) }
+    ensures request { IfOk result (λ line. asked_of line.request ≡ asked_by
+        (map string_bytes words.now)) }
+    ensures picture { IfOk result (λ line. picture_of line.picture ≡ picture_by
+        (map string_bytes words.now)) }
+    ensures options { IfOk result (λ line. HasOptions (rows_by (map string_bytes words.now))
+        line.request) }
     ensures workers { IfOk result (λ line. HasWorkers line.request) }
-    ensures taken { IfErr result (λ error. takes rollduel_app (map string_bytes words.now) ≡ true → kind_of error ≡ OutOfMemory) }
+    ensures taken { IfErr result (λ error. takes rollduel_app (map string_bytes words.now) ≡ true
+        → kind_of error ≡ OutOfMemory) }
     ensures kinds { FailsBy (fault_of rollduel_app (map string_bytes words.now)) result }
 {
     let line = prog_command_line::read(alloc, words, script)?;

@@ -2,6 +2,9 @@
 //!
 //! The work is done in `roll_cli`, `prog_explain`, `roll_live` and `prog_peers`, and `prog_command_line` reads the command line.
 //! Here are the streams, the file of a picture and the exit status.
+//!
+//! What terminals, pipes and files give or take no clause can say. So less is proved of `main` than of `perform` on
+//! streams that tell their bytes (`roll_text`): the rest is tested on the program as it is built (`tests/runs`).
 #![tactic(auto)]
 
 ghost use Rattle.std.specs.Fn.{FnOnceReturnsAt};
@@ -80,7 +83,8 @@ where
     T: AllocGlobal + Threads + Wait + Copy + Send + 'static,
     ensures refused { EndsRefused (fault_of rollduel_app (map string_bytes words.now)) result }
     ensures match_ends { fault_of rollduel_app (map string_bytes words.now) ≡ []
-        → IfMatch (asked_by (map string_bytes words.now)) (EndsMatch (rows_by (map string_bytes words.now)) result) }
+        → IfMatch (asked_by (map string_bytes words.now))
+        (EndsMatch (rows_by (map string_bytes words.now)) result) }
     ensures unpictured { fault_of rollduel_app (map string_bytes words.now) ≡ []
         → IfRefused (asked_by (map string_bytes words.now)) (EndsUnpictured result) }
     ensures status { HasStatus result }
@@ -137,32 +141,42 @@ where
     O: FnOnce(&str) -> io::Result<F>,
     requires notice { N.IsAlwaysCallable notice }
     requires opener { O.IsAlwaysCallable opener }
-    ensures standard { IfOk result (λ done. IfText (asked_by (map string_bytes words.now)) (λ path task. path ≡ None
-        → EndsOn W.contents (Ends task) writer.old writer.new done.ending (S.remaining standard.old))) }
-    ensures file { IfOk result (λ done. IfText (asked_by (map string_bytes words.now)) (λ path task. IfSome path (λ path.
-        (standard.new ≡ standard.old) × ((opened : _) × FnOnceReturnsAt O.FnOnce opener path opened
-        × EndsOnFile W.contents (Ends task) writer.old writer.new done.ending F.remaining opened)))) }
-    ensures shown { IfOk result (λ done. IfText (asked_by (map string_bytes words.now)) (λ path task. path ≡ None
-        → ShowsOn task (window_by (map string_bytes words.now)) done.ending done.picture (S.remaining standard.old))) }
-    ensures shown_file { IfOk result (λ done. IfText (asked_by (map string_bytes words.now)) (λ path task. IfSome path (λ path.
-        (opened : _) × FnOnceReturnsAt O.FnOnce opener path opened
-        × ShowsOnFile task (window_by (map string_bytes words.now)) done.ending done.picture F.remaining opened))) }
-    ensures live { IfOk result (λ done. IfLive (asked_by (map string_bytes words.now)) (λ path live. path ≡ None
-        → EndsOn W.contents (EndsLive live.game) writer.old writer.new done.ending (S.remaining standard.old))) }
-    ensures live_file { IfOk result (λ done. IfLive (asked_by (map string_bytes words.now)) (λ path live. IfSome path (λ path.
-        (standard.new ≡ standard.old) × ((opened : _) × FnOnceReturnsAt O.FnOnce opener path opened
-        × EndsOnFile W.contents (EndsLive live.game) writer.old writer.new done.ending F.remaining opened)))) }
+    ensures standard { IfOk result (λ done. IfText (asked_by (map string_bytes words.now))
+        (λ path task. path ≡ None → EndsOn W.contents (Ends task) writer.old writer.new done.ending
+        (S.remaining standard.old))) }
+    ensures file { IfOk result (λ done. IfText (asked_by (map string_bytes words.now))
+        (λ path task. IfSome path (λ path. (standard.new ≡ standard.old)
+        × ((opened : _) × FnOnceReturnsAt O.FnOnce opener path opened × EndsOnFile W.contents
+        (Ends task) writer.old writer.new done.ending F.remaining opened)))) }
+    ensures shown { IfOk result (λ done. IfText (asked_by (map string_bytes words.now))
+        (λ path task. path ≡ None → ShowsOn task (window_by (map string_bytes words.now))
+        done.ending done.picture (S.remaining standard.old))) }
+    ensures shown_file { IfOk result (λ done. IfText (asked_by (map string_bytes words.now))
+        (λ path task. IfSome path (λ path. (opened : _) × FnOnceReturnsAt O.FnOnce opener path
+        opened × ShowsOnFile task (window_by (map string_bytes words.now)) done.ending done.picture
+        F.remaining opened))) }
+    ensures live { IfOk result (λ done. IfLive (asked_by (map string_bytes words.now))
+        (λ path live. path ≡ None → EndsOn W.contents (EndsLive live.game) writer.old writer.new
+        done.ending (S.remaining standard.old))) }
+    ensures live_file { IfOk result (λ done. IfLive (asked_by (map string_bytes words.now))
+        (λ path live. IfSome path (λ path. (standard.new ≡ standard.old)
+        × ((opened : _) × FnOnceReturnsAt O.FnOnce opener path opened × EndsOnFile W.contents
+        (EndsLive live.game) writer.old writer.new done.ending F.remaining opened)))) }
     ensures match_ends { IfOk result (λ done. IfMatch (asked_by (map string_bytes words.now))
         (EndsMatch (rows_by (map string_bytes words.now)) done.ending)) }
     ensures match_streams { IfOk result (λ done. IfMatch (asked_by (map string_bytes words.now))
-        ((standard.new ≡ standard.old) × IfSome done.ending.fault (λ fault. (fault ≡ CannotWrite) ⊎ (writer.new ≡ writer.old)))) }
-    ensures unpictured { IfOk result (λ done. IfRefused (asked_by (map string_bytes words.now)) (λ fault.
-        (done.ending ≡ misused) × (done.picture ≡ None) × (standard.new ≡ standard.old) × (writer.new ≡ writer.old))) }
+        ((standard.new ≡ standard.old) × IfSome done.ending.fault (λ fault. (fault ≡ CannotWrite)
+        ⊎ (writer.new ≡ writer.old)))) }
+    ensures unpictured { IfOk result (λ done. IfRefused (asked_by (map string_bytes words.now))
+        (λ fault. (done.ending ≡ misused) × (done.picture ≡ None) × (standard.new ≡ standard.old)
+        × (writer.new ≡ writer.old))) }
     ensures path { IfOk result (λ done. option_map (λ path. path.now) done.path
         ≡ option_map (λ picture. picture.0) (picture_by (map string_bytes words.now))) }
-    ensures no_picture { IfOk result (λ done. picture_by (map string_bytes words.now) ≡ None → done.picture ≡ None) }
+    ensures no_picture { IfOk result (λ done. picture_by (map string_bytes words.now) ≡ None
+        → done.picture ≡ None) }
     ensures status { IfOk result (λ done. HasStatus done.ending) }
-    ensures untouched { IfErr result (λ error. (standard.new ≡ standard.old) × (writer.new ≡ writer.old)) }
+    ensures untouched { IfErr result (λ error. (standard.new ≡ standard.old)
+        × (writer.new ≡ writer.old)) }
     ensures kinds { FailsBy (fault_of rollduel_app (map string_bytes words.now)) result }
 {
     let alloc = threads.alloc();

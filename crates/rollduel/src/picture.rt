@@ -35,7 +35,10 @@ pub struct Done<'a> {
 
 /// A picture that isn't made yet, if one is asked for.
 pub fn sight_of(asked: Option<PictureRequest<'_>>) -> Sight
-    ensures { result ≡ record { window = option_map (λ asked. asked.window) asked.entry; picture = None } }
+    ensures { result ≡ record {
+      window = option_map (λ asked. asked.window) asked.entry;
+      picture = None;
+    } }
 {
     Sight {
         window: match asked {
@@ -71,7 +74,8 @@ pub fn save<L: FnOnce(&str) -> bool, P: FnOnce(&str, &str) -> io::Result<()>>(
         × MatchBool other (result ≡ misused)
         ((saved : _) × FnOnceReturnsAtPair P.FnOnce saver picture.0 picture.1 saved
         × (result ≡ ending_after done.entry.ending saved))) }
-    ensures ends { (result ≡ done.entry.ending) ⊎ (result ≡ misused) ⊎ (result ≡ faulted CannotWrite) }
+    ensures ends { (result ≡ done.entry.ending) ⊎ (result ≡ misused)
+        ⊎ (result ≡ faulted CannotWrite) }
 {
     if done.ending.fault.is_some() {
         return done.ending;

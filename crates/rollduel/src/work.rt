@@ -19,7 +19,8 @@ use std::io::{Read, Write};
 use std::sync::Wait;
 use std::thread::Threads;
 
-/// Does what is asked for, with standard input, of which notice is given, or the file that is opened.
+/// Does what is asked for, with standard input, of which notice is given, or the file that is opened. Its type has no
+/// `Wait`, so it never waits for another thread.
 pub fn answer<S: Read, N: FnOnce(), F: Read + Drop, W: Write, O: FnOnce(&str) -> io::Result<F>>(
     alloc: Global,
     asked: &TextRequest<'_>,
@@ -32,13 +33,13 @@ pub fn answer<S: Read, N: FnOnce(), F: Read + Drop, W: Write, O: FnOnce(&str) ->
 ) -> Ending
     requires notice { N.IsAlwaysCallable notice }
     requires opener { O.IsAlwaysCallable opener }
-    ensures standard { path_of asked.now.input ≡ None
-        → EndsOn W.contents (Ends asked.now.task) writer.old writer.new result (S.remaining standard.old) }
-    ensures file { IfSome (path_of asked.now.input) (λ path.
-        (standard.new ≡ standard.old) × ((opened : _) × FnOnceReturnsAt O.FnOnce opener path opened
-        × EndsOnFile W.contents (Ends asked.now.task) writer.old writer.new result F.remaining opened)) }
-    ensures shown { path_of asked.now.input ≡ None
-        → ShowsOn asked.now.task sight.old.window result sight.new.picture (S.remaining standard.old) }
+    ensures standard { path_of asked.now.input ≡ None → EndsOn W.contents (Ends asked.now.task)
+        writer.old writer.new result (S.remaining standard.old) }
+    ensures file { IfSome (path_of asked.now.input) (λ path. (standard.new ≡ standard.old)
+        × ((opened : _) × FnOnceReturnsAt O.FnOnce opener path opened × EndsOnFile W.contents
+        (Ends asked.now.task) writer.old writer.new result F.remaining opened)) }
+    ensures shown { path_of asked.now.input ≡ None → ShowsOn asked.now.task sight.old.window result
+        sight.new.picture (S.remaining standard.old) }
     ensures shown_file { IfSome (path_of asked.now.input) (λ path.
         (opened : _) × FnOnceReturnsAt O.FnOnce opener path opened
         × ShowsOnFile asked.now.task sight.old.window result sight.new.picture F.remaining opened) }
@@ -114,11 +115,11 @@ where
     requires workers { (1 ≤ live.workers) × (live.workers ≤ 4) }
     requires notice { N.IsAlwaysCallable notice }
     requires opener { O.IsAlwaysCallable opener }
-    ensures standard { path_of input.entry ≡ None
-        → EndsOn W.contents (EndsLive live.game) writer.old writer.new result (S.remaining standard.old) }
-    ensures file { IfSome (path_of input.entry) (λ path.
-        (standard.new ≡ standard.old) × ((opened : _) × FnOnceReturnsAt O.FnOnce opener path opened
-        × EndsOnFile W.contents (EndsLive live.game) writer.old writer.new result F.remaining opened)) }
+    ensures standard { path_of input.entry ≡ None → EndsOn W.contents (EndsLive live.game)
+        writer.old writer.new result (S.remaining standard.old) }
+    ensures file { IfSome (path_of input.entry) (λ path. (standard.new ≡ standard.old)
+        × ((opened : _) × FnOnceReturnsAt O.FnOnce opener path opened × EndsOnFile W.contents
+        (EndsLive live.game) writer.old writer.new result F.remaining opened)) }
     ensures status { HasStatus result }
 {
     match input {

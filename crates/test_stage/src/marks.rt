@@ -33,7 +33,8 @@ fn are_same_but(player: u8, from: u32, base: u32, time: &[Row], rows: &[Row]) ->
 
 /// Whether a row of a frame has the same cells as another, but for a player's from a frame on.
 fn is_same_but(player: u8, from: u64, frame: u64, there: &Row, row: &Row) -> bool
-    ensures { IsTrue result → (k : ℕ) → (k + 1 ≡ player → frame < from) → slice_get row.now k ≡ slice_get there.now k }
+    ensures { IsTrue result → (k : ℕ) → (k + 1 ≡ player → frame < from)
+        → slice_get row.now k ≡ slice_get there.now k }
 {
     if row.count() != there.count() {
         return false;

@@ -20,7 +20,8 @@ pub const ROUND: usize = 10;
 /// A request of each kind: what has come is applied, player 1 plays a frame with the word 1, that player 2 gives the word 3
 /// is guessed up to frame 2, what workers ran is taken in, a link is added, and the first one is ended.
 pub fn round(alloc: Global, finished: Finished) -> Result<VecDeque<HostRequest<Played>>, AllocError>
-    ensures own { (rings : List Ring) → slice_get rings 0 ≡ Some finished.ring → IfOk result (λ list. All (EndsOwn rings) list.items) }
+    ensures own { (rings : List Ring) → slice_get rings 0 ≡ Some finished.ring → IfOk result
+        (λ list. All (EndsOwn rings) list.items) }
     ensures length { IfOk result (λ list. length list.items ≡ ROUND) }
 {
     let mut words = ArrayVec::new();

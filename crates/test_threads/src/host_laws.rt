@@ -30,7 +30,9 @@ pub fn host_goes_on<G: Game>(
     requires room { vec_len replies.old + length requests.old.items ≤ vec_capacity replies.old }
     requires ends { All (EndsOwn (rings_of host.old.links)) requests.old.items }
     ensures settled { OnOk result (settled host.old.session.core ≤ settled host.new.session.core) }
-    ensures known { OnOk result ((place t : ℕ) (cell : Cell) → known_cell host.old.session.core.players place t ≡ Some cell → known_cell host.new.session.core.players place t ≡ Some cell) }
+    ensures known { OnOk result ((place t : ℕ) (cell : Cell)
+        → known_cell host.old.session.core.players place t ≡ Some cell
+        → known_cell host.new.session.core.players place t ≡ Some cell) }
     ensures least { OnOk result ((m : ℕ) → IsLeast host.new.session.core m) }
 {
     host_laws(host);
@@ -41,7 +43,8 @@ pub fn host_goes_on<G: Game>(
 
 /// The state that a host shows is the run over the rows of its log's replay: those of the last roll.
 pub fn host_shows<G: Game>(host: &Host<G>) -> Option<&G::State>
-    ensures { Shows G.state_value G.step host.now.session.opening host.now.session.core.shown (option_copied result) }
+    ensures { Shows G.state_value G.step host.now.session.opening host.now.session.core.shown
+        (option_copied result) }
 {
     host.session().current()
 }

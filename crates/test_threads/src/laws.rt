@@ -25,7 +25,8 @@ pub fn goes_on<G: Game>(
 ) -> Result<(), NoMemory>
     requires { vec_len replies.old + length requests.old.items ≤ vec_capacity replies.old }
     ensures settled { OnOk result (settled session.old.core ≤ settled session.new.core) }
-    ensures known { OnOk result ((place t : ℕ) (cell : Cell) → known_cell session.old.core.players place t ≡ Some cell → known_cell session.new.core.players place t ≡ Some cell) }
+    ensures known { OnOk result ((place t : ℕ) (cell : Cell) → known_cell session.old.core.players
+        place t ≡ Some cell → known_cell session.new.core.players place t ≡ Some cell) }
 {
     session.laws();
     session.run(requests, replies)?;

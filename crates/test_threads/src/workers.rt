@@ -169,7 +169,8 @@ fn both_worked(
     gate: &Meeting,
     ends: Vec<WorkerEnd<Slow>>,
 ) -> Result<Vec<WorkerEnd<Slow>>, Refusal>
-    ensures { IfOk result (λ back. map (λ end. end.place) back.items ≡ map (λ end. end.place) ends.items) }
+    ensures { IfOk result (λ back. map (λ end. end.place) back.items ≡ map (λ end. end.place)
+        ends.items) }
 {
     let mut back = Vec::with_capacity(alloc, 2)?;
     let mut in_order = ends.into_iter();
