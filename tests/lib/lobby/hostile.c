@@ -206,7 +206,9 @@ static void test_stranger(void) {
     say_junk();
     run(300);
     for (int at = 0; at < 3; at++)
-        CHECK_SAY(self.told[at][FAZ_LOBBY_FULL] == 1 && self.told[at][FAZ_LOBBY_UP] == 2
+        /* (a busy machine may stand still for the second after which a line is silent) */
+        CHECK_SAY(self.told[at][FAZ_LOBBY_FULL] == 1 && self.told[at][FAZ_LOBBY_UP] >= 2
+                      && self.told[at][FAZ_LOBBY_UP] <= 2 + self.told[at][FAZ_LOBBY_SILENT]
                       && faz_lobby_stage_of(self.lobby[at]) == FAZ_LOBBY_READY, "the match goes on among strangers");
     CHECK_SAY(self.told[0][FAZ_LOBBY_JOINED] == 2, "nobody else joined");
     close_all();
