@@ -92,12 +92,12 @@ typedef struct callbacks {
 typedef struct policy {
     callbacks call;
     void *game;
-    uint32_t frame;             /* the current one */
-    uint32_t heard;             /* how many words of player 2 have come */
-    uint32_t wrong;             /* the first frame that was predicted wrong, or `frame` */
-    uint32_t own[KEPT];         /* player 1's words */
-    uint32_t other[KEPT];       /* player 2's, as they came or as predicted */
-    uint32_t last;              /* player 2's last word */
+    uint32_t frame;       /* the current one */
+    uint32_t heard;       /* how many words of player 2 have come */
+    uint32_t wrong;       /* the first frame that was predicted wrong, or `frame` */
+    uint32_t own[KEPT];   /* player 1's words */
+    uint32_t other[KEPT]; /* player 2's, as they came or as predicted */
+    uint32_t last;        /* player 2's last word */
 } policy;
 
 static void run_frame(policy *ggpo, uint32_t frame) {
@@ -177,8 +177,8 @@ static void measure(const char *what, uint32_t late, int changes) {
     static match game, other;
     double took = least_of(&game, late, changes, play, 1);
     double others = least_of(&other, late, changes, play_by_policy, 0);
-    printf("%-38s %7.0f ns a frame, %4.2f steps; GGPO's policy %5.0f ns, %4.2f steps\n", what, took,
-           (double)game.steps / FRAMES, others, (double)other.steps / FRAMES);
+    printf("%-38s %7.0f ns a frame, %4.2f steps; GGPO's policy %5.0f ns, %4.2f steps\n", what, took, (double)game.steps / FRAMES, others,
+           (double)other.steps / FRAMES);
     MUST(game.state == other.state);
     fazgrond_close(&game.session);
 }
@@ -235,8 +235,8 @@ static void measure_peers(void) {
             least = took;
     }
     OK(fazgrond_frame(&both[0].match.session, &frame));
-    printf("%-38s %7.0f ns a turn, %4.2f steps, %.2f frames\n", "two peers, a turn of one", least,
-           (double)both[0].match.steps / FRAMES, (double)frame / FRAMES);
+    printf("%-38s %7.0f ns a turn, %4.2f steps, %.2f frames\n", "two peers, a turn of one", least, (double)both[0].match.steps / FRAMES,
+           (double)frame / FRAMES);
     for (uint32_t me = 0; me < 2; me++) {
         fazgrond_peer_close(&both[me].peer);
         fazgrond_close(&both[me].match.session);
@@ -299,8 +299,8 @@ static void measure_minute(match *games) {
         longest = took > longest ? took : longest;
         late += now() > start + (frame + 1) * 1e9 / 60;
     }
-    printf("%-38s %7.2f s of work in %.2f s, longest frame %.1f ms, %d of 3600 frames over late\n",
-           "10000 sessions, a minute", busy / 1e9, (now() - start) / 1e9, longest / 1e6, late);
+    printf("%-38s %7.2f s of work in %.2f s, longest frame %.1f ms, %d of 3600 frames over late\n", "10000 sessions, a minute", busy / 1e9,
+           (now() - start) / 1e9, longest / 1e6, late);
 }
 
 static void measure_many(int minute) {

@@ -21,9 +21,7 @@ static void must(Code code) {
     }
 }
 
-static double now() {
-    return double(std::chrono::nanoseconds(std::chrono::steady_clock::now().time_since_epoch()).count());
-}
+static double now() { return double(std::chrono::nanoseconds(std::chrono::steady_clock::now().time_since_epoch()).count()); }
 
 struct Game {
     std::uint64_t state = 0, steps = 0, saved[257] = {};

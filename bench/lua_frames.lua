@@ -85,9 +85,10 @@ local function take_turn(self, other, turn)
 end
 
 local function measure_peers()
-    local least, one, two = math.huge, nil, nil
+    local least, one = math.huge, nil
     for _ = 1, RUNS do
-        one, two = new_machine(0), new_machine(1)
+        one = new_machine(0)
+        local two = new_machine(1)
         local from = now()
         for turn = 0, FRAMES - 1 do
             take_turn(one, two, turn)

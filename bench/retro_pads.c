@@ -18,7 +18,8 @@ int main(int count, char **words) {
     if (count != 5)
         return 2;
     hand player = hand_of((uint64_t)atol(words[2]), (uint32_t)atol(words[3]));
-    struct sockaddr_in to = { .sin_family = AF_INET, .sin_port = htons((uint16_t)atoi(words[1])),
+    struct sockaddr_in to = { .sin_family = AF_INET,
+                              .sin_port = htons((uint16_t)atoi(words[1])),
                               .sin_addr.s_addr = htonl(INADDR_LOOPBACK) };
     int line = socket(AF_INET, SOCK_DGRAM, 0);
     struct timespec due;

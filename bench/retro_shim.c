@@ -63,11 +63,12 @@ static void write_figures(void) {
     if (file == NULL)
         return;
     figures_write(&self.figures, file);
-    fprintf(file, "frames %u\nagain %u\ndeepest %u\nruns %u\nloads %u\nsaves %u\n", self.figures.clock.count, self.again,
-            self.deepest, self.runs, self.loads, self.saves);
+    fprintf(file, "frames %u\nagain %u\ndeepest %u\nruns %u\nloads %u\nsaves %u\n", self.figures.clock.count, self.again, self.deepest,
+            self.runs, self.loads, self.saves);
     fclose(file);
 }
 
+/* clang-format off */
 #define FIND(name) \
     static __typeof__(name) *to; \
     if (to == NULL) \
@@ -107,6 +108,7 @@ PASS(size_t, retro_get_memory_size, (unsigned id), (id))
 PASS(size_t, retro_serialize_size, (void), ())
 PASS_AND_TIME(bool, retro_serialize, (void *out, size_t size), (out, size), saves)
 PASS_AND_TIME(bool, retro_unserialize, (const void *from, size_t size), (from, size), loads)
+/* clang-format on */
 
 void retro_run(void) {
     FIND(retro_run);

@@ -107,8 +107,14 @@ static void open_match(match *self, long number) {
     for (uint32_t at = 0; at < players(); at++)
         self->bots[at] = duel_bot_of(number + 1, (int)at + 1);
     name_of(name, number);
-    self->cast = faz_cast_open(&(faz_cast_settings){ .servers = servers, .match = name, .me = "bench", .game = &duel_game,
-                                                     .opening = &self->field, .session = &session, .rate = 60 }, &why);
+    self->cast = faz_cast_open(&(faz_cast_settings){ .servers = servers,
+                                                     .match = name,
+                                                     .me = "bench",
+                                                     .game = &duel_game,
+                                                     .opening = &self->field,
+                                                     .session = &session,
+                                                     .rate = 60 },
+                               &why);
     if (self->cast == NULL)
         die(why);
 }
@@ -184,8 +190,7 @@ static double late_at(double percent) {
 static double own_time(void) {
     struct rusage used;
     getrusage(RUSAGE_SELF, &used);
-    return (double)(used.ru_utime.tv_sec + used.ru_stime.tv_sec)
-        + (double)(used.ru_utime.tv_usec + used.ru_stime.tv_usec) / 1000000;
+    return (double)(used.ru_utime.tv_sec + used.ru_stime.tv_sec) + (double)(used.ru_utime.tv_usec + used.ru_stime.tv_usec) / 1000000;
 }
 
 static void measure(void) {
@@ -223,12 +228,11 @@ static void measure(void) {
         lost += state.lost;
     }
     double wanted = (double)matches * (double)viewers * (double)(frames / FAZ_RUN - WARM_UP * 60 / FAZ_RUN - 1);
-    printf("| %ld | %ld | %ld | %s | %.0f | %.0f %% | %.1f | %.1f | %.1f / %.1f | %.1f / %.1f | %.2f %% | %.2f %% |\n", matches, viewers, each, how,
-           (double)(bytes_after - bytes_before) / passed / (double)(matches * viewers),
+    printf("| %ld | %ld | %ld | %s | %.0f | %.0f %% | %.1f | %.1f | %.1f / %.1f | %.1f / %.1f | %.2f %% | %.2f %% |\n", matches, viewers,
+           each, how, (double)(bytes_after - bytes_before) / passed / (double)(matches * viewers),
            (double)(time_after - time_before) / (double)sysconf(_SC_CLK_TCK) / passed * 100, late_at(50), late_at(99),
            (double)took[count / 2] / 1000, (double)took[count * 99 / 100] / 1000, (double)worked[count * 99 / 100] / 1000,
-           (double)worked[count - 1] / 1000,
-           own / passed / (double)matches * 100, 100 - 100 * (double)atomic_load(&both->seen) / wanted);
+           (double)worked[count - 1] / 1000, own / passed / (double)matches * 100, 100 - 100 * (double)atomic_load(&both->seen) / wanted);
     if (lost > 0)
         printf("%" PRIu32 " rows lost\n", lost);
     free(took);

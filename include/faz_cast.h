@@ -16,10 +16,10 @@ typedef struct faz_cast_settings {
     const char *match;   /* the match's name: the same at all who publish it */
     const char *me;      /* who publishes: another name at each */
     const faz_game *game;
-    const void *opening;             /* the state before frame 0 */
+    const void *opening;              /* the state before frame 0 */
     const fazgrond_settings *session; /* of whom only what all players have alike is told */
-    uint32_t rate;                   /* frames a second */
-    uint32_t limit;                  /* frames from this one on aren't published; 0: no limit but a session's */
+    uint32_t rate;                    /* frames a second */
+    uint32_t limit;                   /* frames from this one on aren't published; 0: no limit but a session's */
 } faz_cast_settings;
 
 typedef struct faz_cast_state {

@@ -9,8 +9,8 @@
 typedef struct faz_game {
     const char *name;
     size_t size;
-    void (*step)(void *state, const fazgrond_row *row);     /* goes on by a frame */
-    uint64_t (*digest)(const void *state);                  /* another one for most other states */
-    bool (*is_state)(const void *state, uint32_t players);  /* whether it is safe to step these bytes: they may be forged */
+    void (*step)(void *state, const fazgrond_row *row);    /* goes on by a frame */
+    uint64_t (*digest)(const void *state);                 /* another one for most other states */
+    bool (*is_state)(const void *state, uint32_t players); /* whether it is safe to step these bytes: they may be forged */
 } faz_game;
 #endif

@@ -32,28 +32,28 @@ enum {
 
 /* Set it to zeros first. All that it points at is copied. */
 typedef struct faz_lobby_settings {
-    const char *broker;    /* nats://203.0.113.10:4222, tls://PASS@example.org:4222 with the pass of a broker that has an operator,
+    const char *broker;  /* nats://203.0.113.10:4222, tls://PASS@example.org:4222 with the pass of a broker that has an operator,
                             * tls://user:password@[2001:db8::10]:4222, or several with commas between them */
-    const char *trusted;   /* a file with the certificates that a broker is believed by; null: those of the system */
-    const char *stun;      /* a STUN server, by address or name; null: none */
+    const char *trusted; /* a file with the certificates that a broker is believed by; null: those of the system */
+    const char *stun;    /* a STUN server, by address or name; null: none */
     uint16_t stun_port;
     faz_line_relay relays[FAZ_LINE_RELAYS]; /* TURN servers, by addresses or names */
     uint32_t relay_count;
-    bool relay_only;       /* the others aren't to see this machine's address */
-    bool has_door;         /* the broker has a door beside it (programs/door), which gives relays if none are named here. Without
+    bool relay_only;  /* the others aren't to see this machine's address */
+    bool has_door;    /* the broker has a door beside it (programs/door), which gives relays if none are named here. Without
                             * saying so, whoever has a short code asks there too */
-    bool any_sender;       /* as in faz_line_settings: for a match into which players come back, and for other programs */
-    const char *name;      /* of who plays here, as the others see it; null: "a player" */
-    uint64_t digest;       /* of all that has to be alike at all machines: another one is refused before any line is made */
-    uint32_t here;         /* how many players sit at this machine; 0 is 1 */
-    bool lasts;            /* whoever stops can come back into the match, or somebody else in its place (FAZ_LOBBY_COMES) */
+    bool any_sender;  /* as in faz_line_settings: for a match into which players come back, and for other programs */
+    const char *name; /* of who plays here, as the others see it; null: "a player" */
+    uint64_t digest;  /* of all that has to be alike at all machines: another one is refused before any line is made */
+    uint32_t here;    /* how many players sit at this machine; 0 is 1 */
+    bool lasts;       /* whoever stops can come back into the match, or somebody else in its place (FAZ_LOBBY_COMES) */
     /* The host's alone. */
-    uint32_t players;      /* how many play, 2 to FAZGROND_PLAYERS, those at this machine among them */
-    bool asks;             /* who joins has to be let in by faz_lobby_let_in */
-    bool stays_open;       /* if faz_lobby_begin leaves seats that nobody has, they stay: each is a player of the match whom nobody plays yet,
+    uint32_t players;   /* how many play, 2 to FAZGROND_PLAYERS, those at this machine among them */
+    bool asks;          /* who joins has to be let in by faz_lobby_let_in */
+    bool stays_open;    /* if faz_lobby_begin leaves seats that nobody has, they stay: each is a player of the match whom nobody plays yet,
                             * and whoever comes later gets one (`vacant`). For a match that `lasts` */
-    bool short_code;       /* a code of seven signs by the door, which can be typed. Who joins has to be let in then, in any case */
-    const void *common;    /* what is handed to all, as the opening's settings; FAZ_LOBBY_COMMON bytes at most */
+    bool short_code;    /* a code of seven signs by the door, which can be typed. Who joins has to be let in then, in any case */
+    const void *common; /* what is handed to all, as the opening's settings; FAZ_LOBBY_COMMON bytes at most */
     size_t common_length;
 } faz_lobby_settings;
 
@@ -67,23 +67,23 @@ typedef enum faz_lobby_stage {
 } faz_lobby_stage;
 
 typedef enum faz_lobby_what {
-    FAZ_LOBBY_CODE,    /* the host's code, in `text`: friends join by it. It is told once the broker is there. A short one is another
+    FAZ_LOBBY_CODE,      /* the host's code, in `text`: friends join by it. It is told once the broker is there. A short one is another
                         * one after five wrong tries, and a long one after 20 in all, or five in a match: `why` is
                         * FAZ_LOBBY_WRONG_CODE then */
-    FAZ_LOBBY_AWAY,    /* the broker or the door isn't there, and is tried again and again, or a server's name isn't known: `text`
+    FAZ_LOBBY_AWAY,      /* the broker or the door isn't there, and is tried again and again, or a server's name isn't known: `text`
                         * says which */
-    FAZ_LOBBY_ASKS,    /* `name` wants to join, and `who` is for faz_lobby_let_in. At who joins: the player of `name`, who hosts, is
+    FAZ_LOBBY_ASKS,      /* `name` wants to join, and `who` is for faz_lobby_let_in. At who joins: the player of `name`, who hosts, is
                         * asked. Both see the same `text`, unless somebody stands between the two */
-    FAZ_LOBBY_JOINED,  /* `name` is in the lobby. At who joins: this machine is in that of `name`. `text` as above */
-    FAZ_LOBBY_LEFT,    /* `name` has left the lobby before the match began */
-    FAZ_LOBBY_FULL,    /* all are there: the match is known */
-    FAZ_LOBBY_UP,      /* the line to a machine is up, or has come back. `text` says by which way */
-    FAZ_LOBBY_SILENT,  /* nothing comes from a machine for a second: another way is looked for */
-    FAZ_LOBBY_BLOCKED, /* no way to a machine was found in six seconds; it is looked for again and again */
-    FAZ_LOBBY_ENDED,   /* it won't come to a match: `why`, and in words `text` */
-    FAZ_LOBBY_COMES,   /* in a match that `lasts`: a machine that was silent, or nobody's, is `name`'s from now on, who has come back or
+    FAZ_LOBBY_JOINED,    /* `name` is in the lobby. At who joins: this machine is in that of `name`. `text` as above */
+    FAZ_LOBBY_LEFT,      /* `name` has left the lobby before the match began */
+    FAZ_LOBBY_FULL,      /* all are there: the match is known */
+    FAZ_LOBBY_UP,        /* the line to a machine is up, or has come back. `text` says by which way */
+    FAZ_LOBBY_SILENT,    /* nothing comes from a machine for a second: another way is looked for */
+    FAZ_LOBBY_BLOCKED,   /* no way to a machine was found in six seconds; it is looked for again and again */
+    FAZ_LOBBY_ENDED,     /* it won't come to a match: `why`, and in words `text` */
+    FAZ_LOBBY_COMES,     /* in a match that `lasts`: a machine that was silent, or nobody's, is `name`'s from now on, who has come back or
                         * is new. The line to it is another one, with another number */
-    FAZ_LOBBY_REFUSED, /* at the host: `name` can't join, for `why`: FAZ_LOBBY_A_PAGE. The player is told, since friends may wonder */
+    FAZ_LOBBY_REFUSED,   /* at the host: `name` can't join, for `why`: FAZ_LOBBY_A_PAGE. The player is told, since friends may wonder */
     FAZ_LOBBY_UNANSWERED /* at who joins: nobody hosts by this code, or its last four signs are wrong (`why`), as somebody says who may be
                           * anybody. It is waited for the host: `text` says for how long, and FAZ_LOBBY_ENDED comes then */
 } faz_lobby_what;
@@ -97,10 +97,10 @@ typedef enum faz_lobby_why {
     FAZ_LOBBY_HOST_LEFT,     /* the host closed its lobby, or is gone */
     FAZ_LOBBY_OTHER_LIBRARY, /* the host speaks another version of what is said in a lobby */
     FAZ_LOBBY_SYSTEM,        /* no memory, or no socket */
-    FAZ_LOBBY_WRONG_CODE,    /* the last four signs of a short code are wrong, or who answers doesn't know them. With a host's code: somebody
+    FAZ_LOBBY_WRONG_CODE, /* the last four signs of a short code are wrong, or who answers doesn't know them. With a host's code: somebody
                               * has tried wrong ones */
-    FAZ_LOBBY_TOO_MANY,      /* the door was asked too often from this address: later */
-    FAZ_LOBBY_A_PAGE         /* the host's game is a page in a browser, and this one isn't: they have no line with each other */
+    FAZ_LOBBY_TOO_MANY,   /* the door was asked too often from this address: later */
+    FAZ_LOBBY_A_PAGE      /* the host's game is a page in a browser, and this one isn't: they have no line with each other */
 } faz_lobby_why;
 
 typedef struct faz_lobby_event {
@@ -166,8 +166,8 @@ bool faz_lobby_begin(faz_lobby *lobby);
 bool faz_lobby_get_match(const faz_lobby *lobby, faz_lobby_match *match);
 
 /* The same as settings of a peer: `me`, `machines`, owners, numbers, digest and comers, and silent_after 10,000. `draw` and `opening` are
- * for you to set. Players of a vacant machine are nobody's (FAZGROND_NOBODY), which fazgrond_peer_open_lasting takes, and the number with it is that
- * of `comers`. */
+ * for you to set. Players of a vacant machine are nobody's (FAZGROND_NOBODY), which fazgrond_peer_open_lasting takes, and the number with
+ * it is that of `comers`. */
 bool faz_lobby_get_peer(const faz_lobby *lobby, fazgrond_match *match);
 
 /* Sends a datagram of FAZGROND_DATAGRAM bytes at most to a machine. False, and lost: as faz_line_send, or there is no such line. */

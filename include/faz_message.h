@@ -29,7 +29,7 @@ typedef enum faz_kind {
 
 /* What is the same all through a match. */
 typedef struct faz_head {
-    uint32_t players, rate; /* rate: frames a second */
+    uint32_t players, rate;                               /* rate: frames a second */
     uint32_t profile, threshold, masks[FAZGROND_PLAYERS]; /* as in the settings of the players' sessions */
     uint32_t size;                                        /* of a state */
     char game[FAZ_NAME];
@@ -77,13 +77,11 @@ uint32_t faz_other_version(const uint8_t *bytes, size_t length, uint64_t number)
 
 /* Each reads a message, whatever the bytes are, and says whether it is one. How many rows; 0 if it is none. */
 bool faz_read_head(const uint8_t *bytes, size_t length, uint64_t number, faz_head *head);
-uint32_t faz_read_rows(const uint8_t *bytes, size_t length, uint64_t number, uint32_t players, uint32_t *first,
-                       fazgrond_row *rows);
+uint32_t faz_read_rows(const uint8_t *bytes, size_t length, uint64_t number, uint32_t players, uint32_t *first, fazgrond_row *rows);
 bool faz_read_sum(const uint8_t *bytes, size_t length, uint64_t number, faz_sum *sum);
 bool faz_read_end(const uint8_t *bytes, size_t length, uint64_t number, uint32_t *frames, char *reason);
 /* Into a place for a state, which is that of the digest; what is there if there is none has no meaning. */
-bool faz_read_snap(const uint8_t *bytes, size_t length, uint64_t number, const faz_game *game, uint32_t players, faz_sum *sum,
-                   void *state);
+bool faz_read_snap(const uint8_t *bytes, size_t length, uint64_t number, const faz_game *game, uint32_t players, faz_sum *sum, void *state);
 
 #ifdef __cplusplus
 }

@@ -1,8 +1,8 @@
 /* Who comes into a match that goes on in epochs: a player who comes back after a crash, one who comes late, and who only watches.
  *
  * Each of them has a line with each machine of the match: an address at either end, and a number of 64 random bits that only the two know.
- * A machine of the match is a host of all of them (`faz_hosting`), with a seat for each. Who comes (`faz_comer`) follows one host at a time:
- * it takes the state with which the host's epoch began, steps it by the settled rows, and is then proposed by a mark. Once the epoch
+ * A machine of the match is a host of all of them (`faz_hosting`), with a seat for each. Who comes (`faz_comer`) follows one host at a
+ * time: it takes the state with which the host's epoch began, steps it by the settled rows, and is then proposed by a mark. Once the epoch
  * ends by that, it opens a session and a peer of its own at the first frame of the next one. Nobody waits meanwhile.
  *
  * Neither end has a socket, a clock or memory but for the state: both make and take datagrams. All structs are set to zeros first. */
@@ -16,8 +16,8 @@
 extern "C" {
 #endif
 
-/* Sends a datagram to the other end of a line: `to` is a seat of the hosting, or a place in the comer's `numbers`. Both stay whose they are,
- * where a player who comes back may be another machine than before: so send what the peer has by the player whose owner it names. */
+/* Sends a datagram to the other end of a line: `to` is a seat of the hosting, or a place in the comer's `numbers`. Both stay whose they
+ * are, where a player who comes back may be another machine than before: so send what the peer has by the player whose owner it names. */
 typedef void faz_send(void *of, uint32_t to, const uint8_t *bytes, size_t length);
 
 /* How an epoch began, as a host tells it. */
@@ -32,9 +32,9 @@ enum { FAZ_TABLE_BYTES = 72, FAZ_SEATS = 40 };
 /* ---- At a machine of the match. */
 
 typedef struct faz_seat {
-    bool is_taken;   /* there is such a seat */
-    uint64_t number; /* that of the line */
-    uint64_t ticket; /* of whoever sits there: by fazgrond_ticket, of the match's `comers` and a name of your choice */
+    bool is_taken;    /* there is such a seat */
+    uint64_t number;  /* that of the line */
+    uint64_t ticket;  /* of whoever sits there: by fazgrond_ticket, of the match's `comers` and a name of your choice */
     uint32_t players; /* a bit for each player that is to be its own; 0: it watches */
 
     fazgrond_line line, before; /* of this epoch, and of the one before */

@@ -23,20 +23,20 @@ typedef struct faz_view_settings {
 } faz_view_settings;
 
 typedef struct faz_view_state {
-    uint32_t frame;    /* of the state that is shown: how many rows it has */
-    uint32_t ahead;    /* how many rows more are there, up to 1024 */
-    uint32_t known;    /* the frame after the last row that has come */
-    bool is_shown;     /* a state is there */
+    uint32_t frame; /* of the state that is shown: how many rows it has */
+    uint32_t ahead; /* how many rows more are there, up to 1024 */
+    uint32_t known; /* the frame after the last row that has come */
+    bool is_shown;  /* a state is there */
     bool is_paused;
-    bool is_following; /* it catches up with the match if it is behind */
-    bool has_ended;    /* an end has come, all frames were played, and for a while there were no more */
-    const char *reason; /* of the end */
-    uint32_t desync;   /* a frame at which the state was another than the players'; FAZ_LATEST: none */
-    uint32_t gaps;     /* gaps that were jumped over */
+    bool is_following;         /* it catches up with the match if it is behind */
+    bool has_ended;            /* an end has come, all frames were played, and for a while there were no more */
+    const char *reason;        /* of the end */
+    uint32_t desync;           /* a frame at which the state was another than the players'; FAZ_LATEST: none */
+    uint32_t gaps;             /* gaps that were jumped over */
     uint32_t gap_from, gap_to; /* the last of them: these frames, but not the last one, were never published */
-    uint32_t asked;    /* how often rows were asked for that had not come by themselves */
+    uint32_t asked;            /* how often rows were asked for that had not come by themselves */
     uint32_t malformed, other; /* messages that were dropped: FAZ_MALFORMED, FAZ_OTHER */
-    uint32_t version;  /* of the match's header, if this library doesn't read it; else 0 */
+    uint32_t version;          /* of the match's header, if this library doesn't read it; else 0 */
 } faz_view_state;
 
 /* Begins to watch. Null if it can't, and why: a text that stays. */

@@ -40,11 +40,7 @@ typedef int GGPOPlayerHandle;
 
 #define GGPO_INVALID_HANDLE (-1)
 
-typedef enum {
-    GGPO_PLAYERTYPE_LOCAL,
-    GGPO_PLAYERTYPE_REMOTE,
-    GGPO_PLAYERTYPE_SPECTATOR
-} GGPOPlayerType;
+typedef enum { GGPO_PLAYERTYPE_LOCAL, GGPO_PLAYERTYPE_REMOTE, GGPO_PLAYERTYPE_SPECTATOR } GGPOPlayerType;
 
 /* `player_num` counts from 1, and each number is at all machines the same player's. Several players may have one address: then
  * they sit at one machine. Of a spectator the address counts alone; the machine that adds it is its host. */
@@ -209,8 +205,8 @@ typedef struct GGPONetworkStats {
 } GGPONetworkStats;
 
 /* Begins a session and opens its port. Its players are added next, num_players of them. */
-GGPO_API GGPOErrorCode __cdecl ggpo_start_session(GGPOSession **session, GGPOSessionCallbacks *cb, const char *game,
-                                                  int num_players, int input_size, unsigned short localport);
+GGPO_API GGPOErrorCode __cdecl ggpo_start_session(GGPOSession **session, GGPOSessionCallbacks *cb, const char *game, int num_players,
+                                                  int input_size, unsigned short localport);
 
 /* Adds a player. The match opens by the first ggpo_idle or ggpo_add_local_input after the last of them, a sync test by ggpo_idle
  * alone. Spectators are added before that, up to 32, each at one machine of the match, its host. Their handles count from 1000, as in
@@ -230,9 +226,8 @@ GGPO_API GGPOErrorCode __cdecl ggpo_start_synctest(GGPOSession **session, GGPOSe
  * GGPO_ERRORCODE_PLAYER_DISCONNECTED once the host is gone too. Nothing is saved, loaded or played again. Who is behind, as
  * fazggpo_get_settled says, plays more than one frame in a turn. Who begins anew isn't told a match again that it has heard of
  * before: it is told after the disconnect timeout that the host has left. */
-GGPO_API GGPOErrorCode __cdecl ggpo_start_spectating(GGPOSession **session, GGPOSessionCallbacks *cb, const char *game,
-                                                     int num_players, int input_size, unsigned short local_port, char *host_ip,
-                                                     unsigned short host_port);
+GGPO_API GGPOErrorCode __cdecl ggpo_start_spectating(GGPOSession **session, GGPOSessionCallbacks *cb, const char *game, int num_players,
+                                                     int input_size, unsigned short local_port, char *host_ip, unsigned short host_port);
 
 /* Says to the others that this machine leaves, and gives all back. Helpers have to have ended: it is refused with
  * GGPO_ERRORCODE_INVALID_REQUEST while one is at work. A spectator who hasn't all frames by then never gets them:
@@ -290,8 +285,8 @@ GGPO_API const char *__cdecl ggpo_last_error(GGPOSession *session);
 GGPO_API GGPOErrorCode __cdecl fazggpo_set_match(GGPOSession *session, uint64_t number);
 
 /* A digest of the state in which this game begins, before the match opens. Machines and spectators with other ones are told
- * FAZGGPO_EVENTCODE_MISMATCH, and no match begins. It is for the game to say: GGPO has a state saved with the first input and not before, so
- * that a game may make it as late as GGPO_EVENTCODE_RUNNING. 0, as without this call: none. Who comes back or later says the same. */
+ * FAZGGPO_EVENTCODE_MISMATCH, and no match begins. It is for the game to say: GGPO has a state saved with the first input and not before,
+ * so that a game may make it as late as GGPO_EVENTCODE_RUNNING. 0, as without this call: none. Who comes back or later says the same. */
 GGPO_API GGPOErrorCode __cdecl fazggpo_set_opening(GGPOSession *session, uint64_t digest);
 
 /* A number for spectators, in the place of the match's number. Each line of a host and a spectator has a number of its own,
@@ -322,8 +317,7 @@ GGPO_API GGPOErrorCode __cdecl fazggpo_get_settled_state(GGPOSession *session, i
 /* What the game was given for a settled frame: all players' inputs as ggpo_synchronize_input gives them, and who had left. Of parts of a
  * match that are over (fazggpo_rejoin), and of what a machine that came back was told first, the last 1024 frames are remembered. It is
  * refused with GGPO_ERRORCODE_INVALID_REQUEST if the frame isn't settled, or isn't remembered, and for a session that watches. */
-GGPO_API GGPOErrorCode __cdecl fazggpo_get_settled_input(GGPOSession *session, int frame, void *values, int size,
-                                                         int *disconnect_flags);
+GGPO_API GGPOErrorCode __cdecl fazggpo_get_settled_input(GGPOSession *session, int frame, void *values, int size, int *disconnect_flags);
 
 /* The first frame of which fazggpo_get_settled_input has the inputs: 0, but for a match whose parts are over, and on a machine that came
  * back. It is refused with GGPO_ERRORCODE_NOT_SYNCHRONIZED before the first input. */

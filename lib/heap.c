@@ -20,15 +20,11 @@ static block block_of(void *at) {
     return found;
 }
 
-block rattle_alloc(size_t size, size_t align) {
-    return block_of(malloc(size != 0 ? size : align));
-}
+block rattle_alloc(size_t size, size_t align) { return block_of(malloc(size != 0 ? size : align)); }
 
 block rattle_realloc(void *at, size_t old_size, size_t size, size_t align) {
     (void)old_size;
     return block_of(realloc(at, size != 0 ? size : align));
 }
 
-void rattle_dealloc(void *at) {
-    free(at);
-}
+void rattle_dealloc(void *at) { free(at); }

@@ -1,3 +1,4 @@
+# shellcheck shell=sh
 # For tests: sourced at the top, it has a folder $work, counts of checks, and machines that play the duel of the folder $OUT.
 OUT=${OUT:-$PWD/out}
 work=$(mktemp -d) || exit 2

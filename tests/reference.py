@@ -13,19 +13,20 @@ FOLDER = ROOT / "docs/reference"
 HEADERS = ROOT / "include"
 README = """# Reference
 
-Each page here is made of the sources by `tests/sayings --write`, and the gate compares them. A crate's page shows what is public in it, as the file has
-it: the doc comment says what a caller has to know, the clauses what is proved of the body. A clause begins with `ensures`, or with `requires`
-if callers have to show it, which is proved of each call in Rattle; then come its name and its text. The names in that text are definitions,
-in `specs/` of the crate where the link leads. [RULES.md](../RULES.md) introduces them, and [PROVED.md](../PROVED.md) says what is taken on trust.
-*Wrong bodies* were put in place of right ones, and the gate has the checker refuse each at the clause that is named.
+Each page here is made of the sources by `tests/sayings --write`, and the gate compares them. A crate's page shows what is public in it, as
+the file has it: the doc comment says what a caller has to know, the clauses what is proved of the body. A clause begins with `ensures`, or
+with `requires` if callers have to show it, which is proved of each call in Rattle; then come its name and its text. The names in that text
+are definitions, in `specs/` of the crate where the link leads. [RULES.md](../RULES.md) introduces them, and [PROVED.md](../PROVED.md) says
+what is taken on trust. *Wrong bodies* were put in place of right ones, and the gate has the checker refuse each at the clause that is
+named.
 
-No function ever does anything undefined. Each meets its clauses, and returns; one with `Wait` or `Threads` in its bounds may first wait for what
-another thread does.
+No function ever does anything undefined. Each meets its clauses, and returns; one with `Wait` or `Threads` in its bounds may first wait for
+what another thread does.
 """
 ITEM = re.compile(r"( *)(pub(?:\([a-z]+\))? )?(?:const |unsafe |extern \"C\" )*(fn|struct|enum|trait|type|const|static|ghost) (?!use)(\w+)")
 IMPL = re.compile(r"impl\b(?:<(?:[^<>]|<[^<>]*>)*>)? (.*)")
 USE = re.compile(r"^ *ghost use Rattle\.(\w+)\.(specs\.[\w.]+)\.\{([^}]*)\};", re.M)
-DEFINED = re.compile(r"(?:abbrev |unfoldable )?pub (?:record |data )?(\S+)")
+DEFINED = re.compile(r"(?: *(?:abbrev|unfoldable) pub | *pub (?:record|data) |pub )(\S+)")
 # What stands around the declarations of a header.
 AROUND = re.compile(r"#(include|ifndef \w+_HP?P?$|define \w+_HP?P?$|ifdef __cplusplus|endif|pragma)|extern \"C\" \{|\}$|$")
 CLAUSE = re.compile(r" *(ensures|requires)\b")
@@ -79,7 +80,7 @@ def text_of_function(lines):
     """A function's signature and clauses, without its body."""
     code = []
     for line in lines:
-        if line.strip() == "{":
+        if line.strip() in ("{", "{}"):
             return code
         code.append(line)
         in_clause = any(CLAUSE.match(it) for it in code)
@@ -139,7 +140,7 @@ def definitions_of(crate):
             defined = DEFINED.match(line)
             if defined:
                 found.setdefault((path.stem, defined[1]), Definition(defined[1], f"specs/{path.name}", about))
-            about = [*about, line[2:].strip()] if line.startswith("--") else []
+            about = [*about, line.strip()[2:].strip()] if line.lstrip().startswith("--") else []
     return found
 
 
@@ -219,7 +220,8 @@ def of_wrong_bodies(crate):
 def crate_page(crate, crates, said_of):
     own = [f"[{it}]({it}.md)" for it in crates[crate].own]
     users = [f"[{it}]({it}.md)" for it in crates if crate in crates[it].own]
-    lines = [f"# {crate}", "", *said_of, "", f"Stands on: {', '.join(own) or 'no other crate'}. Used by: {', '.join(users) or 'no other crate'}."]
+    lines = [f"# {crate}", "", *said_of, ""]
+    lines += [f"Stands on: {', '.join(own) or 'no other crate'}. Used by: {', '.join(users) or 'no other crate'}."]
     items = [line for path in sources_of(crate) for line in of_file(path, crate, crates)]
     lines += ["", "## Public items", *items] if items else []
     return "\n".join([*lines, *of_definitions(crate), *of_wrong_bodies(crate)]) + "\n"
@@ -257,7 +259,7 @@ def pages(crates):
     """The text of each page, by file."""
     found, said = {}, {name: intro_of(name) for name in crates}
     rows = [f"| [{it}]({it}.md) | {first_sentence(said[it])} |" for it in crates]
-    heads = [f"| [{it.name}]({it.name}.md) | {first_sentence(header_page(it).splitlines()[4:]).removeprefix(f'{it.name}: ')} |" for it in headers()]
+    heads = [f"| [{it.name}]({it.name}.md) | {about_header(it)} |" for it in headers()]
     found[FOLDER / "README.md"] = "\n".join([README, "| Crate | |", "|---|---|", *rows, "", "| C header | |", "|---|---|", *heads]) + "\n"
     for it in headers():
         found[FOLDER / f"{it.name}.md"] = header_page(it)
@@ -268,6 +270,10 @@ def pages(crates):
 
 def headers():
     return sorted([*HEADERS.glob("*.h"), *HEADERS.glob("*.hpp")])
+
+
+def about_header(path):
+    return first_sentence(header_page(path).splitlines()[4:]).removeprefix(f"{path.name}: ")
 
 
 def first_sentence(lines):

@@ -96,9 +96,7 @@ void *calloc(size_t many, size_t size) { return is_refused(&allocations) ? no_me
 
 void *realloc(void *old, size_t size) { return is_refused(&allocations) ? no_memory() : __libc_realloc(old, size); }
 
-void *aligned_alloc(size_t alignment, size_t size) {
-    return is_refused(&allocations) ? no_memory() : __libc_memalign(alignment, size);
-}
+void *aligned_alloc(size_t alignment, size_t size) { return is_refused(&allocations) ? no_memory() : __libc_memalign(alignment, size); }
 
 int posix_memalign(void **place, size_t alignment, size_t size) {
     void *got = aligned_alloc(alignment, size);

@@ -2,9 +2,9 @@
 """The packets that docs/WIRE.md tells of, made from its rules, with nothing else of the project: tests/wire.py PAGE [SOURCE..]
 
 Whatever the page shows in hexadecimal has to be what is made here: the packets, what the table of places says of each of them, the numbers
-and runs of its tables, the steps of the seal, and the sizes. All packets that are made here stand in tests/vectors/packets.txt. A source (of
-Rust, or C) is searched for arrays of bytes that begin as a packet does: each has to be one of these packets, sealed or not. The last line
-is `N passed, M failed`.
+and runs of its tables, the steps of the seal, and the sizes. All packets that are made here stand in tests/vectors/packets.txt. A source
+(of Rust, or C) is searched for arrays of bytes that begin as a packet does: each has to be one of these packets, sealed or not. The last
+line is `N passed, M failed`.
 """
 import hashlib
 import hmac

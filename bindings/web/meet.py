@@ -24,8 +24,8 @@ REASONS = ["the host said no", "nobody hosts a match with this code now", "all s
            "the door was asked too often from this address: try later",
            "the host doesn't play in a browser: a native game joins it by --join of its own"]
 UNANSWERED = "nobody who hosts a match with this code answers: the host is gone, or its game has an older version of this library"
-# Seconds: between two messages, without an answer, and until it is believed that a code is wrong. And so often it knocks, since who hears one
-# can spoil its proof.
+# Seconds: between two messages, without an answer, and until it is believed that a code is wrong. And so often it knocks, since who hears
+# one can spoil its proof.
 AGAIN, PATIENCE, BELIEVED, KNOCKS = 0.5, 10, 3, 3
 
 
@@ -338,8 +338,8 @@ class Lobby:
         await self.ask(offer)
 
     async def answered(self, subject, asking, kind, read, gone=REASONS[1]):
-        """What is answered to what is said again and again, of a kind, and as it is read: what that gives None for may be anybody's, and is left
-        aside. `gone` is why, if nobody hears it."""
+        """What is answered to what is said again and again, of a kind, and as it is read: what that gives None for may be anybody's, and is
+        left aside. `gone` is why, if nobody hears it."""
         now, again = asyncio.get_running_loop().time, 0
         until, self.is_unheard = now() + PATIENCE, False
         while now() < min(until, self.believed or until):
@@ -449,7 +449,8 @@ class Lobby:
         return said, of.data
 
     def read_offer(self, data, code=None):
-        """The host's inbox; None if this is another's. With a short code the key by which the offer is sealed says that it is the host's."""
+        """The host's inbox; None if this is another's. With a short code the key by which the offer is sealed says that it is the
+        host's."""
         of = Reader(self.sodium.open(self.room_key, data[1:], b"o") or b"")
         if of.number(1) != VERSION:
             raise Failed(REASONS[6])

@@ -29,8 +29,7 @@ EXPORT(read_sum) uint32_t web_read_sum(uint32_t bytes, uint32_t length, uint64_t
 /* The state is all that is behind the first bytes, whose number comes back; 0 if this is no snapshot. */
 EXPORT(read_snap) uint32_t web_read_snap(uint32_t bytes, uint32_t length, uint64_t number, uint32_t size, uint32_t sum) {
     const uint8_t *at = AT(const uint8_t, bytes);
-    return length == HEAD + SUM + size && is_packet(at, length, FAZ_SNAP, SUM, number) && get_sum(at, AT(faz_sum, sum)) ? HEAD + SUM
-                                                                                                                     : 0;
+    return length == HEAD + SUM + size && is_packet(at, length, FAZ_SNAP, SUM, number) && get_sum(at, AT(faz_sum, sum)) ? HEAD + SUM : 0;
 }
 
 EXPORT(read_end) uint32_t web_read_end(uint32_t bytes, uint32_t length, uint64_t number, uint32_t frames, uint32_t reason) {

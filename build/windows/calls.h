@@ -1,4 +1,5 @@
 /* The functions of fazgrond.h: what each answers, its name, its parameters, and their names. */
+/* clang-format off */
 CALL(uint32_t, fazgrond_version, (void), ())
 CALL(size_t, fazgrond_text, (int32_t code, uint8_t *out, size_t room), (code, out, room))
 CALL(int32_t, fazgrond_open, (fazgrond_session *session, const fazgrond_settings *settings), (session, settings))

@@ -32,18 +32,14 @@ static block block_of(void *at) {
     return found;
 }
 
-SYSV block sysv_rattle_alloc(size_t size, size_t align) {
-    return block_of(HeapAlloc(GetProcessHeap(), 0, size != 0 ? size : align));
-}
+SYSV block sysv_rattle_alloc(size_t size, size_t align) { return block_of(HeapAlloc(GetProcessHeap(), 0, size != 0 ? size : align)); }
 
 SYSV block sysv_rattle_realloc(void *at, size_t old_size, size_t size, size_t align) {
     (void)old_size;
     return block_of(HeapReAlloc(GetProcessHeap(), 0, at, size != 0 ? size : align));
 }
 
-SYSV void sysv_rattle_dealloc(void *at) {
-    HeapFree(GetProcessHeap(), 0, at);
-}
+SYSV void sysv_rattle_dealloc(void *at) { HeapFree(GetProcessHeap(), 0, at); }
 
 /* Plain loops, which the compiler must not take for calls of these same functions: build.sh tells it so. */
 

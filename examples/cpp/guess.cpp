@@ -34,12 +34,8 @@ struct Tally {
 
     void operator()(const fazgrond::Request &request) {
         switch (request.kind) {
-        case FAZGROND_LOAD:
-            state = saved[request.slot];
-            break;
-        case FAZGROND_SAVE:
-            saved[request.slot] = state;
-            break;
+        case FAZGROND_LOAD: state = saved[request.slot]; break;
+        case FAZGROND_SAVE: saved[request.slot] = state; break;
         case FAZGROND_STEP:
             state = stepped(state, request.row);
             steps++;
@@ -52,15 +48,9 @@ struct Tally {
         std::uint64_t aside = 0;
         for (const fazgrond::Request &request : job) {
             switch (request.kind) {
-            case FAZGROND_JOB_LOAD:
-                aside = saved[request.slot];
-                break;
-            case FAZGROND_JOB_STEP:
-                aside = stepped(aside, request.row);
-                break;
-            case FAZGROND_JOB_SAVE:
-                saved[request.slot] = aside;
-                break;
+            case FAZGROND_JOB_LOAD: aside = saved[request.slot]; break;
+            case FAZGROND_JOB_STEP: aside = stepped(aside, request.row); break;
+            case FAZGROND_JOB_SAVE: saved[request.slot] = aside; break;
             }
         }
     }
@@ -103,8 +93,7 @@ void play(bool is_guessed) {
         must(session.remote_input(2, frame, 3));
     game.steps = 0;
     must(session.synchronize_input(row, game));
-    std::cout << (is_guessed ? "guessed" : "not guessed") << ": " << game.steps << " frames run again, state "
-              << game.state << '\n';
+    std::cout << (is_guessed ? "guessed" : "not guessed") << ": " << game.steps << " frames run again, state " << game.state << '\n';
 
     // A guess that nobody runs is given up.
     must(session.guess(2, words, 1, 5, number, [](const fazgrond::Request &) {}));

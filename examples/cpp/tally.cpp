@@ -35,9 +35,7 @@ public:
             step(request.row);
             std::cout << "  step " << request.row.words[0] << ' ' << request.row.words[1] << ": state " << state << '\n';
             break;
-        case FAZGROND_FREE:
-            std::cout << "  free slot " << request.slot << '\n';
-            break;
+        case FAZGROND_FREE: std::cout << "  free slot " << request.slot << '\n'; break;
         }
     }
 
@@ -57,8 +55,7 @@ void advance(Tally &game, fazgrond::Session &session) {
     fazgrond::Reached reached;
     must(session.add_local_input(1, 1));
     must(session.advance_frame(reached, game));
-    std::cout << "frame " << reached.frame << " from " << reached.from << " rerun " << reached.rerun << " state "
-              << game.state << '\n';
+    std::cout << "frame " << reached.frame << " from " << reached.from << " rerun " << reached.rerun << " state " << game.state << '\n';
 }
 
 } // namespace

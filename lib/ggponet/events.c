@@ -67,9 +67,7 @@ static GGPOEvent told_of(const GGPOSession *session, const fazgrond_event *event
         told.u.synchronizing.count = (int)event->count;
         told.u.synchronizing.total = (int)event->total;
         break;
-    case GGPO_EVENTCODE_DISCONNECTED_FROM_PEER:
-        told.u.disconnected.player = ggponet_handle_of_word(session, (int)event->player);
-        break;
+    case GGPO_EVENTCODE_DISCONNECTED_FROM_PEER: told.u.disconnected.player = ggponet_handle_of_word(session, (int)event->player); break;
     case GGPO_EVENTCODE_TIMESYNC: told.u.timesync.frames_ahead = (int)event->frames_ahead; break;
     case GGPO_EVENTCODE_CONNECTION_INTERRUPTED:
         told.u.connection_interrupted.player = handle;

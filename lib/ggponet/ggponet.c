@@ -26,9 +26,7 @@ static uint64_t digest_of(const char *name, int players, int input_size) {
 }
 
 /* How many words an input has: its last bytes may be none of the game's. */
-static int words_for(int input_size) {
-    return (input_size + WORD_BYTES - 1) / WORD_BYTES;
-}
+static int words_for(int input_size) { return (input_size + WORD_BYTES - 1) / WORD_BYTES; }
 
 /* Why no session can be begun for such a game. */
 static GGPOErrorCode can_begin(const GGPOSessionCallbacks *cb, const char *game, int players, int input_size) {
@@ -40,17 +38,15 @@ static GGPOErrorCode can_begin(const GGPOSessionCallbacks *cb, const char *game,
     if (input_size < 1)
         return ggponet_refuse(NULL, GGPO_ERRORCODE_INVALID_REQUEST, "an input of %d bytes", input_size);
     if (input_size > MOST_BYTES)
-        return ggponet_refuse(NULL, GGPO_ERRORCODE_UNSUPPORTED, "an input of %d bytes; this library takes 16 at most",
-                              input_size);
+        return ggponet_refuse(NULL, GGPO_ERRORCODE_UNSUPPORTED, "an input of %d bytes; this library takes 16 at most", input_size);
     if (players * words_for(input_size) > FAZGROND_PLAYERS)
         return ggponet_refuse(NULL, GGPO_ERRORCODE_UNSUPPORTED,
-                              "%d players with inputs of %d bytes; this library takes 32 bytes in all, each input rounded up to 4",
-                              players, input_size);
+                              "%d players with inputs of %d bytes; this library takes 32 bytes in all, each input rounded up to 4", players,
+                              input_size);
     return GGPO_OK;
 }
 
-GGPOErrorCode ggponet_make_session(GGPOSession **session, const GGPOSessionCallbacks *cb, const char *game, int players,
-                                   int input_size) {
+GGPOErrorCode ggponet_make_session(GGPOSession **session, const GGPOSessionCallbacks *cb, const char *game, int players, int input_size) {
     if (session == NULL)
         return ggponet_refuse(NULL, GGPO_ERRORCODE_INVALID_REQUEST, "no place for the session");
     *session = NULL;
@@ -81,8 +77,8 @@ GGPOErrorCode ggponet_make_session(GGPOSession **session, const GGPOSessionCallb
 }
 
 /* A session with a socket. */
-static GGPOErrorCode make_with_port(GGPOSession **session, const GGPOSessionCallbacks *cb, const char *game, int players,
-                                    int input_size, unsigned short port) {
+static GGPOErrorCode make_with_port(GGPOSession **session, const GGPOSessionCallbacks *cb, const char *game, int players, int input_size,
+                                    unsigned short port) {
     GGPOErrorCode code = ggponet_make_session(session, cb, game, players, input_size);
     if (code != GGPO_OK)
         return code;
@@ -95,13 +91,13 @@ static GGPOErrorCode make_with_port(GGPOSession **session, const GGPOSessionCall
     return ggponet_refuse(NULL, GGPO_ERRORCODE_GENERAL_FAILURE, "port %d can't be opened", (int)port);
 }
 
-GGPOErrorCode ggpo_start_session(GGPOSession **session, GGPOSessionCallbacks *cb, const char *game, int num_players,
-                                 int input_size, unsigned short localport) {
+GGPOErrorCode ggpo_start_session(GGPOSession **session, GGPOSessionCallbacks *cb, const char *game, int num_players, int input_size,
+                                 unsigned short localport) {
     return make_with_port(session, cb, game, num_players, input_size, localport);
 }
 
-GGPOErrorCode ggpo_start_spectating(GGPOSession **session, GGPOSessionCallbacks *cb, const char *game, int num_players,
-                                    int input_size, unsigned short local_port, char *host_ip, unsigned short host_port) {
+GGPOErrorCode ggpo_start_spectating(GGPOSession **session, GGPOSessionCallbacks *cb, const char *game, int num_players, int input_size,
+                                    unsigned short local_port, char *host_ip, unsigned short host_port) {
     struct sockaddr_in host;
     if (session != NULL)
         *session = NULL;
@@ -170,8 +166,7 @@ static void take(GGPOSession *session, const struct sockaddr_in *from, const uin
             ggponet_hear_host(session, bytes, length);
     } else if (session->can_rejoin && (at = place_at(session, from)) >= 0)
         take_of_place(session, at, sender, bytes, length);
-    else if (sender < session->machines && sender != session->me
-             && ggponet_is_address(from, &session->machine[sender].address))
+    else if (sender < session->machines && sender != session->me && ggponet_is_address(from, &session->machine[sender].address))
         take_of_match(session, bytes, length);
     else if ((at = ggponet_spectator_at(session, from)) >= 0)
         ggponet_hear_spectator(session, at, bytes, length);
@@ -278,17 +273,11 @@ static void read_words(const void *values, int size, uint32_t *words) {
         words[at / WORD_BYTES] |= (uint32_t)((const uint8_t *)values)[at] << (8 * (at % WORD_BYTES));
 }
 
-int ggponet_all_words(const GGPOSession *session) {
-    return session->players * session->words;
-}
+int ggponet_all_words(const GGPOSession *session) { return session->players * session->words; }
 
-int ggponet_word_player(const GGPOSession *session, GGPOPlayerHandle handle, int word) {
-    return (handle - 1) * session->words + word + 1;
-}
+int ggponet_word_player(const GGPOSession *session, GGPOPlayerHandle handle, int word) { return (handle - 1) * session->words + word + 1; }
 
-GGPOPlayerHandle ggponet_handle_of_word(const GGPOSession *session, int player) {
-    return (player - 1) / session->words + 1;
-}
+GGPOPlayerHandle ggponet_handle_of_word(const GGPOSession *session, int player) { return (player - 1) / session->words + 1; }
 
 int ggponet_flags_of(const GGPOSession *session, const fazgrond_row *row) {
     uint32_t all = (1u << session->words) - 1;
@@ -367,8 +356,7 @@ GGPOErrorCode ggpo_add_local_input(GGPOSession *session, GGPOPlayerHandle handle
     if (values == NULL)
         return ggponet_refuse(session, GGPO_ERRORCODE_INVALID_REQUEST, "no input");
     if (size != session->input_size)
-        return ggponet_refuse(session, GGPO_ERRORCODE_INVALID_REQUEST, "an input of %d bytes; %d were expected", size,
-                              session->input_size);
+        return ggponet_refuse(session, GGPO_ERRORCODE_INVALID_REQUEST, "an input of %d bytes; %d were expected", size, session->input_size);
     uint32_t words[MOST_BYTES / WORD_BYTES];
     read_words(values, size, words);
     return session->sync_frames != 0 ? add_to_sync_test(session, handle, words) : add_to_match(session, handle, words);
@@ -387,8 +375,7 @@ GGPOErrorCode ggpo_synchronize_input(GGPOSession *session, void *values, int siz
     if (session->is_broken)
         return GGPO_ERRORCODE_GENERAL_FAILURE;
     if (values == NULL || size < session->players * session->input_size)
-        return ggponet_refuse(session, GGPO_ERRORCODE_INVALID_REQUEST, "room of %d bytes for %d inputs", size,
-                              session->players);
+        return ggponet_refuse(session, GGPO_ERRORCODE_INVALID_REQUEST, "room of %d bytes for %d inputs", size, session->players);
     GGPOErrorCode code = session->in_rollback ? GGPO_OK : find_row(session);
     if (code == GGPO_OK)
         give_row(session, values, size, disconnect_flags);
@@ -405,8 +392,7 @@ GGPOErrorCode ggpo_advance_frame(GGPOSession *session) {
         return GGPO_OK;
     }
     if (!session->is_row_given)
-        return ggponet_refuse(session, GGPO_ERRORCODE_INVALID_REQUEST,
-                              "ggpo_synchronize_input has to come before each frame");
+        return ggponet_refuse(session, GGPO_ERRORCODE_INVALID_REQUEST, "ggpo_synchronize_input has to come before each frame");
     session->is_row_given = false;
     session->given = 0;
     if (session->sync_frames != 0)

@@ -44,7 +44,7 @@ typedef struct habit {
 } habit;
 
 struct guesses {
-    int jobs; /* for each frame */
+    int jobs;                      /* for each frame */
     habit habit[FAZGROND_PLAYERS]; /* of each word of each player */
     FazggpoGuesses count;
     FazggpoJob job[MOST_JOBS];

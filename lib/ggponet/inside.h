@@ -38,12 +38,7 @@ enum {
 };
 
 /* How far the other end of a spectator's line has come, as the game was told. */
-typedef enum stage {
-    UNHEARD,
-    HEARD,
-    PLAYING,
-    GONE
-} stage;
+typedef enum stage { UNHEARD, HEARD, PLAYING, GONE } stage;
 
 /* A saved state, as the game made it. */
 typedef struct saved {
@@ -126,9 +121,9 @@ struct GGPOSession {
     uint32_t silent_after;
     uint32_t notify_after;
     bool tells_missing;
-    int me;       /* which machine this is, in this epoch of the match .. */
-    int place;    /* .. and in its first one: so addresses are numbered */
-    int machines; /* how many places there are */
+    int me;                        /* which machine this is, in this epoch of the match .. */
+    int place;                     /* .. and in its first one: so addresses are numbered */
+    int machines;                  /* how many places there are */
     fazgrond_event events[EVENTS]; /* that the game is told by the next ggpo_idle */
     int event_count;
     int place_of[MACHINES];
@@ -136,16 +131,16 @@ struct GGPOSession {
 
     /* A match into which players come back. */
     bool can_rejoin;
-    bool is_coming;  /* this machine follows the match, and isn't in it yet */
-    bool has_no_host; /* and nobody plays it who is heard, .. */
-    bool is_alone;    /* .. which the game was told */
-    uint32_t came_in_at; /* when it came in */
-    bool is_at_seam; /* the next epoch has begun, and the state at its first frame isn't saved yet */
-    bool is_fewer;   /* somebody has left since it was last asked whether this epoch is over */
-    int base;   /* how many frames of the match came before this epoch */
+    bool is_coming;                       /* this machine follows the match, and isn't in it yet */
+    bool has_no_host;                     /* and nobody plays it who is heard, .. */
+    bool is_alone;                        /* .. which the game was told */
+    uint32_t came_in_at;                  /* when it came in */
+    bool is_at_seam;                      /* the next epoch has begun, and the state at its first frame isn't saved yet */
+    bool is_fewer;                        /* somebody has left since it was last asked whether this epoch is over */
+    int base;                             /* how many frames of the match came before this epoch */
     settled_row rows_before[ROWS_BEFORE]; /* the last settled rows, each at the place of its frame */
-    int remembered; /* so many frames of the match have had theirs there, .. */
-    int came_from;  /* .. from this one on: that of the state with which this machine came in */
+    int remembered;                       /* so many frames of the match have had theirs there, .. */
+    int came_from;                        /* .. from this one on: that of the state with which this machine came in */
     fazgrond_epoch epoch;
     faz_hosting hosting;
     faz_comer comer;
@@ -170,7 +165,7 @@ struct GGPOSession {
 
     /* The row that the game is given. */
     fazgrond_row row;
-    uint32_t given; /* a bit for each local player whose input was taken since ggpo_idle or a frame: others' are for the same frame */
+    uint32_t given;    /* a bit for each local player whose input was taken since ggpo_idle or a frame: others' are for the same frame */
     bool is_row_given; /* at this frame, and the game hasn't gone on from it */
     bool in_rollback;
     bool is_advanced;
@@ -204,7 +199,8 @@ struct GGPOSession {
 __attribute__((format(printf, 3, 4)))
 #endif
 /* Notes why a call is refused, and answers with that code. The session is null if none could be begun. */
-GGPOErrorCode ggponet_refuse(GGPOSession *session, GGPOErrorCode code, const char *format, ...);
+GGPOErrorCode
+ggponet_refuse(GGPOSession *session, GGPOErrorCode code, const char *format, ...);
 /* GGPO's code for one of the library. */
 GGPOErrorCode ggponet_refused(GGPOSession *session, int32_t code);
 /* From now on every call is refused. */
@@ -395,6 +391,5 @@ int ggponet_flags_of(const GGPOSession *session, const fazgrond_row *row);
 void ggponet_write_row(const GGPOSession *session, const fazgrond_row *row, uint8_t *out);
 
 uint64_t ggponet_hash_bytes(uint64_t hash, const void *bytes, size_t count);
-GGPOErrorCode ggponet_make_session(GGPOSession **session, const GGPOSessionCallbacks *cb, const char *game, int players,
-                                   int input_size);
+GGPOErrorCode ggponet_make_session(GGPOSession **session, const GGPOSessionCallbacks *cb, const char *game, int players, int input_size);
 #endif

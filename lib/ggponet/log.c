@@ -62,8 +62,7 @@ GGPOErrorCode ggponet_refused(GGPOSession *session, int32_t code) {
     case FAZGROND_PLAYER_DISCONNECTED: return refuse_in_words(session, GGPO_ERRORCODE_PLAYER_DISCONNECTED, code);
     case FAZGROND_LOCAL_INPUT_MISSING:
         return ggponet_refuse(session, GGPO_ERRORCODE_INVALID_REQUEST, "a local player gave no input for this frame");
-    case FAZGROND_FRAME_LIMIT:
-        return ggponet_refuse(session, GGPO_ERRORCODE_INVALID_REQUEST, "a match ends at 1048576 frames");
+    case FAZGROND_FRAME_LIMIT: return ggponet_refuse(session, GGPO_ERRORCODE_INVALID_REQUEST, "a match ends at 1048576 frames");
     default: return refuse_in_words(session, GGPO_ERRORCODE_GENERAL_FAILURE, code);
     }
 }

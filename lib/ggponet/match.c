@@ -8,8 +8,7 @@ static int machine_of(GGPOSession *session, int number) {
     const player *self = &session->player[number - 1];
     for (int at = 0; at < number - 1; at++) {
         const player *other = &session->player[at];
-        if (other->type == self->type
-            && (self->type == GGPO_PLAYERTYPE_LOCAL || ggponet_is_address(&other->address, &self->address)))
+        if (other->type == self->type && (self->type == GGPO_PLAYERTYPE_LOCAL || ggponet_is_address(&other->address, &self->address)))
             return other->machine;
     }
     machine *made = &session->machine[session->machines];
@@ -116,8 +115,7 @@ static void send_before(GGPOSession *session, int to) {
     uint8_t bytes[FAZGROND_DATAGRAM];
     size_t length;
     if (session->can_rejoin
-        && fazgrond_peer_send_before(&session->peer, (uint8_t)to, ggponet_millis(session), bytes, sizeof bytes, &length)
-            == FAZGROND_OK)
+        && fazgrond_peer_send_before(&session->peer, (uint8_t)to, ggponet_millis(session), bytes, sizeof bytes, &length) == FAZGROND_OK)
         ggponet_send_to(session, ggponet_place_of(session, (uint32_t)to), bytes, length);
 }
 
@@ -149,9 +147,7 @@ static GGPOErrorCode open_first_epoch(GGPOSession *session) {
     return code;
 }
 
-bool ggponet_comes_later(const GGPOSession *session) {
-    return session->player[session->machine[session->place].handle - 1].is_vacant;
-}
+bool ggponet_comes_later(const GGPOSession *session) { return session->player[session->machine[session->place].handle - 1].is_vacant; }
 
 GGPOErrorCode ggponet_open_anew(GGPOSession *session) {
     close_both(session);
@@ -368,10 +364,6 @@ GGPOErrorCode ggpo_get_network_stats(GGPOSession *session, GGPOPlayerHandle hand
     return GGPO_OK;
 }
 
-fazgrond_peer *fazggpo_get_peer(GGPOSession *session) {
-    return session != NULL && session->has_begun ? &session->peer : NULL;
-}
+fazgrond_peer *fazggpo_get_peer(GGPOSession *session) { return session != NULL && session->has_begun ? &session->peer : NULL; }
 
-fazgrond_session *fazggpo_get_session(GGPOSession *session) {
-    return session != NULL && session->has_begun ? &session->rollback : NULL;
-}
+fazgrond_session *fazggpo_get_session(GGPOSession *session) { return session != NULL && session->has_begun ? &session->rollback : NULL; }

@@ -30,8 +30,7 @@ GGPOErrorCode ggpo_add_player(GGPOSession *session, GGPOPlayer *added, GGPOPlaye
     if (added->type == GGPO_PLAYERTYPE_SPECTATOR)
         return ggponet_add_spectator(session, added, handle);
     if (added->player_num < 1 || added->player_num > session->players)
-        return ggponet_refuse(session, GGPO_ERRORCODE_PLAYER_OUT_OF_RANGE, "player %d of %d", added->player_num,
-                              session->players);
+        return ggponet_refuse(session, GGPO_ERRORCODE_PLAYER_OUT_OF_RANGE, "player %d of %d", added->player_num, session->players);
     if (added->type != GGPO_PLAYERTYPE_LOCAL && added->type != GGPO_PLAYERTYPE_REMOTE)
         return ggponet_refuse(session, GGPO_ERRORCODE_INVALID_REQUEST, "%d is no type of a player", (int)added->type);
     player *place = &session->player[added->player_num - 1];

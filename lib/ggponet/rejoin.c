@@ -2,7 +2,7 @@
 #include "inside.h"
 
 enum {
-    SURELY = 500, /* milliseconds that a match was running elsewhere, and not here, before this machine comes in */
+    SURELY = 500,   /* milliseconds that a match was running elsewhere, and not here, before this machine comes in */
     IN_VAIN = 3000, /* and since it came in without that the match runs here */
     MOST_STEPS = 30
 };
@@ -87,7 +87,9 @@ GGPOErrorCode ggponet_open_seats(GGPOSession *session) {
             continue;
         comer->machines |= 1u << at;
         comer->numbers[at] = line_number(session, session->place, at);
-        hosting->seat[at] = (faz_seat){ .is_taken = true, .number = comer->numbers[at], .players = players_at(session, at),
+        hosting->seat[at] = (faz_seat){ .is_taken = true,
+                                        .number = comer->numbers[at],
+                                        .players = players_at(session, at),
                                         .ticket = fazgrond_ticket(ggponet_comers(session), (uint32_t)at) };
     }
     comer->players = players_at(session, session->place);

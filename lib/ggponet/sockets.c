@@ -72,8 +72,7 @@ bool ggponet_open_port(GGPOSession *session, unsigned short port) {
     session->socket = begin_sockets() ? socket(AF_INET, SOCK_DGRAM, 0) : NO_SOCKET;
     if (session->socket == NO_SOCKET)
         return false;
-    session->has_port = bind(session->socket, (struct sockaddr *)&address, sizeof address) == 0
-        && make_unblocking(session->socket);
+    session->has_port = bind(session->socket, (struct sockaddr *)&address, sizeof address) == 0 && make_unblocking(session->socket);
     if (!session->has_port)
         close_socket(session->socket);
     return session->has_port;

@@ -13,8 +13,7 @@ GGPOErrorCode ggponet_add_spectator(GGPOSession *session, const GGPOPlayer *adde
     if (session->can_rejoin)
         return ggponet_refuse(session, GGPO_ERRORCODE_UNSUPPORTED, "spectators aren't for a match into which players come back");
     if (session->spectators == GGPO_MAX_SPECTATORS)
-        return ggponet_refuse(session, GGPO_ERRORCODE_TOO_MANY_SPECTATORS, "there are %d spectators already",
-                              GGPO_MAX_SPECTATORS);
+        return ggponet_refuse(session, GGPO_ERRORCODE_TOO_MANY_SPECTATORS, "there are %d spectators already", GGPO_MAX_SPECTATORS);
     if (session->is_open)
         return ggponet_refuse(session, GGPO_ERRORCODE_INVALID_REQUEST, "a spectator has to be added before the match opens");
     GGPOErrorCode code = ggponet_read_address_of(session, added, &address);
@@ -112,8 +111,7 @@ void ggponet_send_to_spectators(GGPOSession *session) {
     size_t length;
     for (int at = 0; at < session->spectators; at++)
         if (session->machine[MACHINES + at].stage != GONE
-            && fazgrond_line_send(&session->line[at], &session->rollback, ggponet_millis(session), bytes, sizeof bytes,
-                                  &length)
+            && fazgrond_line_send(&session->line[at], &session->rollback, ggponet_millis(session), bytes, sizeof bytes, &length)
                 == FAZGROND_OK)
             ggponet_send_to(session, MACHINES + at, bytes, length);
 }

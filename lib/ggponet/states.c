@@ -53,9 +53,7 @@ static bool is_same_row(const fazgrond_row *one, const fazgrond_row *other) {
         && memcmp(one->words, other->words, one->count * sizeof one->words[0]) == 0;
 }
 
-bool ggponet_take_back(GGPOSession *session) {
-    return session->at >= 0 && ggponet_load(session, &session->slots[session->at]);
-}
+bool ggponet_take_back(GGPOSession *session) { return session->at >= 0 && ggponet_load(session, &session->slots[session->at]); }
 
 /* Has the game go on by a frame. If it has done so itself, with the same inputs, nothing is left to do. */
 static bool step(GGPOSession *session, const fazgrond_row *row, bool *is_stepped) {

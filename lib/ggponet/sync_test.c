@@ -4,8 +4,7 @@
 GGPOErrorCode ggpo_start_synctest(GGPOSession **session, GGPOSessionCallbacks *cb, char *game, int num_players, int input_size,
                                   int frames) {
     if (frames < 1 || frames > MOST_SYNC_FRAMES)
-        return ggponet_refuse(NULL, GGPO_ERRORCODE_INVALID_REQUEST, "%d frames; 1 to %d were expected", frames,
-                              MOST_SYNC_FRAMES);
+        return ggponet_refuse(NULL, GGPO_ERRORCODE_INVALID_REQUEST, "%d frames; 1 to %d were expected", frames, MOST_SYNC_FRAMES);
     GGPOErrorCode code = ggponet_make_session(session, cb, game, num_players, input_size);
     if (code == GGPO_OK)
         (*session)->sync_frames = frames;
@@ -55,8 +54,8 @@ static GGPOErrorCode differs(GGPOSession *session, const saved *first, const sav
     log_state(session, "again", second);
     session->call.on_event(&event);
     session->is_broken = true;
-    return ggponet_refuse(session, GGPO_ERRORCODE_GENERAL_FAILURE, "frame %d came out different: checksum %d, and then %d",
-                  first->frame, first->checksum, second->checksum);
+    return ggponet_refuse(session, GGPO_ERRORCODE_GENERAL_FAILURE, "frame %d came out different: checksum %d, and then %d", first->frame,
+                          first->checksum, second->checksum);
 }
 
 static GGPOErrorCode play_again(GGPOSession *session) {

@@ -67,7 +67,8 @@ static void on_state(NiceAgent *agent, guint stream, guint component, guint stat
     ice *self = of;
     (void)agent, (void)stream, (void)component;
     self->state = state == NICE_COMPONENT_STATE_CONNECTED || state == NICE_COMPONENT_STATE_READY ? ICE_THERE
-                : state == NICE_COMPONENT_STATE_FAILED ? ICE_NONE : ICE_LOOKING;
+        : state == NICE_COMPONENT_STATE_FAILED                                                   ? ICE_NONE
+                                                                                                 : ICE_LOOKING;
 }
 
 static void on_datagram(NiceAgent *agent, guint stream, guint component, guint length, gchar *bytes, gpointer of) {
@@ -118,8 +119,8 @@ ice *faz_line_ice_open(const ice_settings *settings) {
     self->agent = nice_agent_new_full(self->context, NICE_COMPATIBILITY_RFC5245,
                                       NICE_AGENT_OPTION_ICE_TRICKLE | NICE_AGENT_OPTION_CONSENT_FRESHNESS);
     g_object_set(self->agent, "controlling-mode", (gboolean)settings->leads, "upnp", FALSE, "ice-tcp", FALSE, "force-relay",
-                 (gboolean)settings->line->relay_only, "stun-initial-timeout", (guint)ASKED_AGAIN, "stun-max-retransmissions",
-                 (guint)TIMES, "stun-pacing-timer", (guint)PACED, NULL);
+                 (gboolean)settings->line->relay_only, "stun-initial-timeout", (guint)ASKED_AGAIN, "stun-max-retransmissions", (guint)TIMES,
+                 "stun-pacing-timer", (guint)PACED, NULL);
     g_signal_connect(self->agent, "new-candidate-full", G_CALLBACK(on_candidate), self);
     g_signal_connect(self->agent, "candidate-gathering-done", G_CALLBACK(on_gathered), self);
     g_signal_connect(self->agent, "component-state-changed", G_CALLBACK(on_state), self);
@@ -147,9 +148,7 @@ void faz_line_ice_turn(ice *self) {
         set_relays(self);
 }
 
-const char *faz_line_ice_text(const ice *self, size_t at) {
-    return at < self->texts ? self->text[at] : NULL;
-}
+const char *faz_line_ice_text(const ice *self, size_t at) { return at < self->texts ? self->text[at] : NULL; }
 
 static void add_candidate(ice *self, const char *text) {
     NiceCandidate *candidate = nice_agent_parse_remote_candidate_sdp(self->agent, self->stream, text);
@@ -173,9 +172,7 @@ void faz_line_ice_told(ice *self, const char *text) {
         nice_agent_peer_candidate_gathering_done(self->agent, self->stream);
 }
 
-ice_state faz_line_ice_look(const ice *self) {
-    return self->state;
-}
+ice_state faz_line_ice_look(const ice *self) { return self->state; }
 
 /* Whether two addresses of IPv6 are in one network, though all the internet may reach them. */
 static bool are_neighbours(const NiceAddress *one, const NiceAddress *other) {
@@ -196,9 +193,7 @@ bool faz_line_ice_send(ice *self, const uint8_t *bytes, size_t length) {
     return nice_agent_send(self->agent, self->stream, 1, (guint)length, (const gchar *)bytes) == (gint)length;
 }
 
-void faz_line_ice_settle(ice *self) {
-    nice_agent_forget_relays(self->agent, self->stream, 1);
-}
+void faz_line_ice_settle(ice *self) { nice_agent_forget_relays(self->agent, self->stream, 1); }
 
 /* Its answer comes to the context that is the thread's at the call. */
 static void begin_to_close(ice *self) {
@@ -230,9 +225,7 @@ bool faz_line_ice_close(ice *self) {
     return true;
 }
 
-void faz_ice_wait(void) {
-    g_usleep(1000);
-}
+void faz_ice_wait(void) { g_usleep(1000); }
 
 uint64_t faz_ice_addresses(void) {
     uint64_t sum = 0;

@@ -49,7 +49,7 @@ struct faz_line {
     way newest, before; /* `before` was heard; it carries on until the newest is */
     ice *closing[CLOSING];
     bool has_turned, is_asked, was_up, was_blocked; /* is_asked: for signals */
-    unsigned tries; /* how many ways were given up since something came */
+    unsigned tries;                                 /* how many ways were given up since something came */
     uint32_t now, heard_at, sent_at, told_at, looked_at;
     uint64_t addresses;
     faz_line_state counts;
@@ -71,9 +71,7 @@ static uint32_t since(const faz_line *self, uint32_t moment) {
 
 /* A process that was forked has the same keys and counters: what it sealed could be read beside what this one seals. So the line is closed
  * there, and the sockets, which both have, are left to its owner. */
-static bool is_own(const faz_line *self) {
-    return self->process == (long)getpid();
-}
+static bool is_own(const faz_line *self) { return self->process == (long)getpid(); }
 
 /* ---- what comes */
 
@@ -191,14 +189,14 @@ static bool close_more(faz_line *self) {
 
 /* Begins to look for the way of a generation, beside the one that was heard. */
 static bool begin(faz_line *self, uint32_t generation) {
-    ice_settings settings = {.line = &self->settings, .leads = self->settings.me < self->settings.other, .came = came, .of = self};
+    ice_settings settings = { .line = &self->settings, .leads = self->settings.me < self->settings.other, .came = came, .of = self };
     if (self->newest.is_heard) {
         retire(self, &self->before);
         self->before = self->newest;
     } else {
         retire(self, &self->newest);
     }
-    self->newest = (way){.ice = faz_line_ice_open(&settings), .generation = generation, .begun = self->now};
+    self->newest = (way){ .ice = faz_line_ice_open(&settings), .generation = generation, .begun = self->now };
     self->told_at = self->now;
     return self->newest.ice != NULL;
 }
@@ -356,20 +354,15 @@ void faz_line_look(const faz_line *self, faz_line_state *state) {
     state->generation = self->newest.generation;
     state->way = by->is_up && is_own(self) ? faz_line_ice_way(by->ice) : FAZ_LINE_NO_WAY;
     state->stage = self->was_up ? (state->silence < SILENT ? FAZ_LINE_UP : FAZ_LINE_SILENT)
-                 : self->was_blocked ? FAZ_LINE_BLOCKED : FAZ_LINE_LOOKING;
+        : self->was_blocked     ? FAZ_LINE_BLOCKED
+                                : FAZ_LINE_LOOKING;
 }
 
-uint64_t faz_line_number(const faz_line *self) {
-    return self->seal.number;
-}
+uint64_t faz_line_number(const faz_line *self) { return self->seal.number; }
 
-static bool fits(const char *text, size_t room) {
-    return text != NULL && strlen(text) < room;
-}
+static bool fits(const char *text, size_t room) { return text != NULL && strlen(text) < room; }
 
-static const char *copy(char *to, const char *text) {
-    return strcpy(to, text);
-}
+static const char *copy(char *to, const char *text) { return strcpy(to, text); }
 
 bool faz_line_relays(faz_line *self, const faz_line_relay *relays, uint32_t count) {
     if (count > FAZ_LINE_RELAYS)
@@ -378,11 +371,11 @@ bool faz_line_relays(faz_line *self, const faz_line_relay *relays, uint32_t coun
         if (!fits(relays[at].address, ADDRESS) || !fits(relays[at].user, WORD) || !fits(relays[at].password, WORD))
             return false;
     for (uint32_t at = 0; at < count; at++)
-        self->settings.relays[at] = (faz_line_relay){.address = copy(self->address[at], relays[at].address),
-                                                     .port = relays[at].port,
-                                                     .user = copy(self->user[at], relays[at].user),
-                                                     .password = copy(self->password[at], relays[at].password),
-                                                     .by_tcp = relays[at].by_tcp};
+        self->settings.relays[at] = (faz_line_relay){ .address = copy(self->address[at], relays[at].address),
+                                                      .port = relays[at].port,
+                                                      .user = copy(self->user[at], relays[at].user),
+                                                      .password = copy(self->password[at], relays[at].password),
+                                                      .by_tcp = relays[at].by_tcp };
     self->settings.relay_count = count;
     return true;
 }

@@ -5,9 +5,7 @@
 
 static const uint64_t COUNTERS = UINT64_C(1) << 56;
 
-void faz_line_seal_draw(uint8_t open[SEAL_KEY], uint8_t secret[SEAL_KEY]) {
-    crypto_kx_keypair(open, secret);
-}
+void faz_line_seal_draw(uint8_t open[SEAL_KEY], uint8_t secret[SEAL_KEY]) { crypto_kx_keypair(open, secret); }
 
 /* What else follows from the two keys: `which` says what. */
 static void follow(uint8_t *out, size_t length, const char *which, const uint8_t *first, const uint8_t *second) {
@@ -40,9 +38,7 @@ bool faz_line_seal_open(seal *self, bool leads, const uint8_t open[SEAL_KEY], co
     return true;
 }
 
-void faz_line_seal_close(seal *self) {
-    sodium_memzero(self, sizeof *self);
-}
+void faz_line_seal_close(seal *self) { sodium_memzero(self, sizeof *self); }
 
 /* No nonce is used twice: a key is one machine's for one line, and its counter only goes up. */
 static void nonce_of(uint8_t nonce[24], const uint8_t front[SEAL_FRONT]) {
@@ -53,7 +49,7 @@ static void nonce_of(uint8_t nonce[24], const uint8_t front[SEAL_FRONT]) {
 size_t faz_line_seal_put(seal *self, uint8_t *out, const uint8_t *bytes, size_t length) {
     if (self->sent >= COUNTERS)
         return 0;
-    uint8_t nonce[24], front[SEAL_FRONT] = {SEAL_FIRST};
+    uint8_t nonce[24], front[SEAL_FRONT] = { SEAL_FIRST };
     for (int at = 1; at < SEAL_FRONT; at++)
         front[at] = (uint8_t)(self->sent >> (8 * (7 - at)));
     self->sent++;
@@ -72,7 +68,8 @@ seal_answer faz_line_seal_take(seal *self, uint8_t *out, const uint8_t *bytes, s
         return SEAL_AGAIN;
     nonce_of(nonce, bytes);
     if (crypto_aead_xchacha20poly1305_ietf_decrypt(out, NULL, NULL, bytes + SEAL_FRONT, length - SEAL_FRONT, bytes, SEAL_FRONT, nonce,
-                                                   self->theirs) != 0)
+                                                   self->theirs)
+        != 0)
         return SEAL_FORGED;
     fazgrond_window_note(&self->came, counter);
     return SEAL_OK;
@@ -87,5 +84,6 @@ size_t faz_line_seal_note(const seal *self, uint8_t *out, const uint8_t *bytes, 
 bool faz_line_seal_read(const seal *self, uint8_t *out, const uint8_t *bytes, size_t length) {
     return length >= NOTE_OVERHEAD
         && crypto_aead_xchacha20poly1305_ietf_decrypt(out, NULL, NULL, bytes + NOTE_NONCE, length - NOTE_NONCE, NULL, 0, bytes,
-                                                      self->their_notes) == 0;
+                                                      self->their_notes)
+        == 0;
 }

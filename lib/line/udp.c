@@ -1,6 +1,6 @@
 /* Ways on a LAN, by a plain UDP socket and nothing else: it tells its addresses, and asks each of the other machine's until one
- * answers, so there is none for a machine that isn't to be seen. What asks and answers has a word that the other machine's way told, so that
- * nobody else's answer counts. */
+ * answers, so there is none for a machine that isn't to be seen. What asks and answers has a word that the other machine's way told, so
+ * that nobody else's answer counts. */
 #define _DEFAULT_SOURCE
 
 #include "ice.h"
@@ -17,7 +17,18 @@
 #include <time.h>
 #include <unistd.h>
 
-enum { WORD = 8, PROBE = 2 + WORD, FIRST = 0xf2, ASKS = 1, ANSWERS = 2, ADDRESSES = 16, DATAGRAMS = 256, MOST = 1500, PAUSE = 100, ROOM = 1 << 20 };
+enum {
+    WORD = 8,
+    PROBE = 2 + WORD,
+    FIRST = 0xf2,
+    ASKS = 1,
+    ANSWERS = 2,
+    ADDRESSES = 16,
+    DATAGRAMS = 256,
+    MOST = 1500,
+    PAUSE = 100,
+    ROOM = 1 << 20
+};
 
 struct ice {
     ice_settings settings;
@@ -75,19 +86,18 @@ static void tell_address(void *of, const struct sockaddr_in *address) {
 }
 
 ice *faz_line_ice_open(const ice_settings *settings) {
-    struct sockaddr_in any = {.sin_family = AF_INET};
+    struct sockaddr_in any = { .sin_family = AF_INET };
     char word[2 * WORD + 1];
     ice *self = settings->line->relay_only ? NULL : calloc(1, sizeof *self);
     if (self == NULL)
         return NULL;
     self->settings = *settings;
     self->socket = socket(AF_INET, SOCK_DGRAM, 0);
-    if (self->socket < 0 || fcntl(self->socket, F_SETFL, O_NONBLOCK) != 0
-        || bind(self->socket, (struct sockaddr *)&any, sizeof any) != 0) {
+    if (self->socket < 0 || fcntl(self->socket, F_SETFL, O_NONBLOCK) != 0 || bind(self->socket, (struct sockaddr *)&any, sizeof any) != 0) {
         faz_line_ice_drop(self);
         return NULL;
     }
-    setsockopt(self->socket, SOL_SOCKET, SO_RCVBUF, &(int){ROOM}, sizeof(int));
+    setsockopt(self->socket, SOL_SOCKET, SO_RCVBUF, &(int){ ROOM }, sizeof(int));
     randombytes_buf(self->ours, WORD);
     snprintf(self->text[self->texts++], ICE_TEXT, "w %s", sodium_bin2hex(word, sizeof word, self->ours, WORD));
     of_addresses(tell_address, self);
@@ -95,7 +105,7 @@ ice *faz_line_ice_open(const ice_settings *settings) {
 }
 
 static void probe(ice *self, const struct sockaddr_in *to, uint8_t kind) {
-    uint8_t bytes[PROBE] = {FIRST, kind};
+    uint8_t bytes[PROBE] = { FIRST, kind };
     memcpy(bytes + 2, self->theirs, WORD);
     sendto(self->socket, bytes, sizeof bytes, 0, (const struct sockaddr *)to, sizeof *to);
 }
@@ -136,12 +146,10 @@ void faz_line_ice_turn(ice *self) {
     }
 }
 
-const char *faz_line_ice_text(const ice *self, size_t at) {
-    return at < self->texts ? self->text[at] : NULL;
-}
+const char *faz_line_ice_text(const ice *self, size_t at) { return at < self->texts ? self->text[at] : NULL; }
 
 static void add(ice *self, const char *number, int port) {
-    struct sockaddr_in to = {.sin_family = AF_INET, .sin_port = htons((uint16_t)port)};
+    struct sockaddr_in to = { .sin_family = AF_INET, .sin_port = htons((uint16_t)port) };
     if (self->addresses == ADDRESSES || inet_pton(AF_INET, number, &to.sin_addr) != 1)
         return;
     for (size_t at = 0; at < self->addresses; at++)
@@ -159,21 +167,15 @@ void faz_line_ice_told(ice *self, const char *text) {
         add(self, word, port);
 }
 
-ice_state faz_line_ice_look(const ice *self) {
-    return self->is_there ? ICE_THERE : ICE_LOOKING;
-}
+ice_state faz_line_ice_look(const ice *self) { return self->is_there ? ICE_THERE : ICE_LOOKING; }
 
-faz_line_way faz_line_ice_way(ice *self) {
-    return self->is_there ? FAZ_LINE_LAN : FAZ_LINE_NO_WAY;
-}
+faz_line_way faz_line_ice_way(ice *self) { return self->is_there ? FAZ_LINE_LAN : FAZ_LINE_NO_WAY; }
 
 bool faz_line_ice_send(ice *self, const uint8_t *bytes, size_t length) {
     return sendto(self->socket, bytes, length, 0, (const struct sockaddr *)&self->to, sizeof self->to) == (ssize_t)length;
 }
 
-void faz_line_ice_settle(ice *self) {
-    (void)self;
-}
+void faz_line_ice_settle(ice *self) { (void)self; }
 
 void faz_line_ice_drop(ice *self) {
     if (self->socket >= 0)
@@ -186,6 +188,4 @@ bool faz_line_ice_close(ice *self) {
     return true;
 }
 
-void faz_ice_wait(void) {
-    nanosleep(&(struct timespec){.tv_nsec = 1000000}, NULL);
-}
+void faz_ice_wait(void) { nanosleep(&(struct timespec){ .tv_nsec = 1000000 }, NULL); }

@@ -40,13 +40,9 @@ aside *faz_aside_begin(void (*work)(void *of), void (*drop)(void *of), void *of)
     return self;
 }
 
-bool faz_aside_is_over(const aside *self) {
-    return atomic_load(&self->stage) == DONE;
-}
+bool faz_aside_is_over(const aside *self) { return atomic_load(&self->stage) == DONE; }
 
-void faz_aside_take(aside *self) {
-    free(self);
-}
+void faz_aside_take(aside *self) { free(self); }
 
 void faz_aside_leave(aside *self) {
     if (self != NULL && atomic_exchange(&self->stage, LEFT) == DONE) {

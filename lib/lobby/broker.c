@@ -161,9 +161,7 @@ static aside *finish_aside(task *last) {
     return job;
 }
 
-static bool is_server(const char *text) {
-    return strncmp(text, "nats://", 7) == 0 || strncmp(text, "tls://", 6) == 0;
-}
+static bool is_server(const char *text) { return strncmp(text, "nats://", 7) == 0 || strncmp(text, "tls://", 6) == 0; }
 
 /* Takes a server over, without what is before its @, unless that is a user's name and password: it is a pass, and the first one counts
  * for all. False: it can't be read. */
@@ -211,13 +209,9 @@ broker *faz_lobby_broker_open(const char *servers, const char *trusted, const ch
     return self;
 }
 
-const uint8_t *faz_lobby_broker_inbox(const broker *self) {
-    return self->settings.user.open;
-}
+const uint8_t *faz_lobby_broker_inbox(const broker *self) { return self->settings.user.open; }
 
-bool faz_lobby_broker_has_pass(const broker *self) {
-    return self->settings.token[0] != 0;
-}
+bool faz_lobby_broker_has_pass(const broker *self) { return self->settings.token[0] != 0; }
 
 void faz_lobby_broker_close(broker *self) {
     if (self == NULL)
@@ -300,9 +294,7 @@ bool faz_lobby_broker_is_there(const broker *self) {
     return self->there != NULL && natsConnection_Status(self->there->connection) == NATS_CONN_STATUS_CONNECTED;
 }
 
-const char *faz_lobby_broker_why(const broker *self) {
-    return self->why[0] != 0 ? self->why : NULL;
-}
+const char *faz_lobby_broker_why(const broker *self) { return self->why[0] != 0 ? self->why : NULL; }
 
 void faz_lobby_broker_renew(broker *self) {
     self->is_wanted = true;
@@ -348,7 +340,7 @@ bool faz_lobby_broker_next(broker *self, broker_message *message) {
         bool is_one = status == NATS_OK && copy(message, came);
         natsMsg_Destroy(came);
         if (status == NATS_NO_RESPONDERS) {
-            *message = (broker_message){.is_nobody = true};
+            *message = (broker_message){ .is_nobody = true };
             is_one = true;
         }
         message->place = at;

@@ -30,7 +30,7 @@ void faz_cursor_put_number(cursor *self, uint64_t number, int bytes) {
 }
 
 uint64_t faz_cursor_get_number(cursor *self, int bytes) {
-    uint8_t text[8] = {0};
+    uint8_t text[8] = { 0 };
     uint64_t number = 0;
     faz_cursor_get(self, text, (size_t)bytes);
     for (int at = 0; at < bytes; at++)

@@ -6,7 +6,7 @@
 #include <string.h>
 
 size_t faz_door_request_write(const door_request *self, uint8_t out[DOOR_MESSAGE]) {
-    cursor to = {out, DOOR_MESSAGE, true};
+    cursor to = { out, DOOR_MESSAGE, true };
     faz_cursor_put_number(&to, DOOR_VERSION, 1);
     faz_cursor_put_number(&to, self->kind, 1);
     faz_cursor_put(&to, self->open, KEY);
@@ -20,7 +20,7 @@ bool faz_door_request_read(door_request *self, const uint8_t *bytes, size_t leng
     if (length > sizeof copy)
         return false;
     memcpy(copy, bytes, length);
-    cursor from = {copy, length, true};
+    cursor from = { copy, length, true };
     bool is_ours = faz_cursor_get_number(&from, 1) == DOOR_VERSION;
     self->kind = (door_kind)faz_cursor_get_number(&from, 1);
     faz_cursor_get(&from, self->open, KEY);
@@ -60,7 +60,7 @@ static void get_servers(cursor *from, door_answer *self) {
 
 size_t faz_door_answer_write(const door_answer *self, const uint8_t open[KEY], uint8_t out[DOOR_MESSAGE]) {
     uint8_t inside[DOOR_MESSAGE - 1 - crypto_box_SEALBYTES];
-    cursor to = {inside, sizeof inside, true};
+    cursor to = { inside, sizeof inside, true };
     faz_cursor_put_number(&to, DOOR_VERSION, 1);
     faz_cursor_put_number(&to, self->status, 1);
     faz_cursor_put_text(&to, self->plate);
@@ -75,7 +75,7 @@ bool faz_door_answer_read(door_answer *self, const uint8_t open[KEY], const uint
     uint8_t inside[DOOR_MESSAGE];
     bool is_good = length > 1 + crypto_box_SEALBYTES && length <= DOOR_MESSAGE && bytes[0] == DOOR_ANSWER
         && crypto_box_seal_open(inside, bytes + 1, length - 1, open, secret) == 0;
-    cursor from = {inside, is_good ? length - 1 - crypto_box_SEALBYTES : 0, is_good};
+    cursor from = { inside, is_good ? length - 1 - crypto_box_SEALBYTES : 0, is_good };
     memset(self, 0, sizeof *self);
     bool is_ours = faz_cursor_get_number(&from, 1) == DOOR_VERSION;
     self->status = (door_status)faz_cursor_get_number(&from, 1);

@@ -11,12 +11,12 @@
 
 enum {
     DOOR_VERSION = 1,
-    DOOR_PLATE = 3,         /* signs */
-    DOOR_TOKEN = 16,        /* bytes of the name under which a host is heard */
-    DOOR_MESSAGE = 1024,    /* bytes at most */
-    DOOR_WORD = 96,         /* room for an address, a user or a password */
-    DOOR_KEPT = 60,         /* seconds for which a plate is its host's, if that doesn't ask again */
-    DOOR_ANSWER = 'd'       /* the first byte of an answer */
+    DOOR_PLATE = 3,      /* signs */
+    DOOR_TOKEN = 16,     /* bytes of the name under which a host is heard */
+    DOOR_MESSAGE = 1024, /* bytes at most */
+    DOOR_WORD = 96,      /* room for an address, a user or a password */
+    DOOR_KEPT = 60,      /* seconds for which a plate is its host's, if that doesn't ask again */
+    DOOR_ANSWER = 'd'    /* the first byte of an answer */
 };
 
 typedef enum door_kind {

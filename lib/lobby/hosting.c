@@ -19,7 +19,7 @@ static void say_answer(faz_lobby *self, guest *to, const answer *text) {
 
 /* Tells a guest how it stands. */
 static void tell(faz_lobby *self, guest *to) {
-    answer text = {.counter = ++to->answers, .what = WAITS};
+    answer text = { .counter = ++to->answers, .what = WAITS };
     strcpy(text.name, self->name);
     if (to->stage == GUEST_REFUSED) {
         text.what = REFUSED;
@@ -151,7 +151,7 @@ bool faz_lobby_let_in(faz_lobby *self, uint32_t who, bool yes) {
 /* ---- what guests say */
 
 size_t faz_host_offer(const faz_lobby *self, const room *in, uint8_t out[BROKER_MESSAGE]) {
-    offer ours = {.version = LOBBY_VERSION};
+    offer ours = { .version = LOBBY_VERSION };
     memcpy(ours.host, self->hosting.open, KEY);
     memcpy(ours.speaks, self->keys.open, KEY);
     memcpy(ours.inbox, self->inbox, INBOX);
@@ -232,8 +232,7 @@ static void note_ask(faz_lobby *self, guest *one, const ask *came) {
 }
 
 /* What a guest says now; false if nobody has said so, or it is an old message. */
-static bool read_ask(faz_lobby *self, guest *one, const room *in, const uint8_t open[KEY], const broker_message *message,
-                     ask *came) {
+static bool read_ask(faz_lobby *self, guest *one, const room *in, const uint8_t open[KEY], const broker_message *message, ask *came) {
     bool is_new = one->stage == GUEST_NONE;
     if (is_new && !faz_pair_of(&one->pair, in, self->keys.open, self->keys.secret, open))
         return false;

@@ -23,7 +23,7 @@ enum {
 
 typedef enum guest_stage {
     GUEST_NONE,
-    GUEST_ASKS,   /* the host's player is asked */
+    GUEST_ASKS, /* the host's player is asked */
     GUEST_SEATED,
     GUEST_REFUSED /* for `why` */
 } guest_stage;
@@ -64,7 +64,7 @@ typedef struct hosting {
     knocker knocker[KNOCKERS];
     uint32_t wrong, wrong_all; /* tries at this code, and in all */
     faz_lobby_why why;         /* the next code is another one */
-    uint32_t named; /* the last number of a guest, or of who comes */
+    uint32_t named;            /* the last number of a guest, or of who comes */
     guest guest[GUESTS];
     seen_keys gone; /* of those who have left, or have their places: what they said may be said again by others */
 } hosting;
@@ -84,7 +84,7 @@ typedef struct joining {
     bool has_key; /* by a proof that is done; what the host says behind that isn't read yet */
     pair host;
     char host_name[BROKER_SUBJECT]; /* where that is asked */
-    bool is_seated, is_asked; /* it has a seat; the host's player is asked */
+    bool is_seated, is_asked;       /* it has a seat; the host's player is asked */
     uint32_t counter, answers;
     bool has_said;
     bool is_unheard, is_wrong; /* its code, as somebody says who may be anybody */
@@ -155,9 +155,8 @@ struct faz_lobby {
 
     bool has_door, wants_relays; /* of the door's */
 
-    bool is_host, is_over, is_known, is_ready, has_turned, has_addresses, has_been_there,
-        has_lines;
-    bool is_away_told; /* that the broker is away */
+    bool is_host, is_over, is_known, is_ready, has_turned, has_addresses, has_been_there, has_lines;
+    bool is_away_told;                 /* that the broker is away */
     uint32_t now, looked_at, known_at; /* known_at: the match */
     uint64_t addresses;
     broker *broker;

@@ -26,14 +26,14 @@ static void say_knock(faz_lobby *self) {
 
 static void say_hello(faz_lobby *self) {
     uint8_t message[BROKER_MESSAGE];
-    hello text = {.version = LOBBY_VERSION};
+    hello text = { .version = LOBBY_VERSION };
     memcpy(text.open, self->keys.open, KEY);
     say(self, self->room_name, message, faz_hello_write(&text, &self->room, message));
 }
 
 static void say_ask(faz_lobby *self, bool leaves) {
     uint8_t message[BROKER_MESSAGE];
-    ask text = {.counter = ++self->joining.counter, .leaves = leaves, .digest = self->digest, .here = self->here};
+    ask text = { .counter = ++self->joining.counter, .leaves = leaves, .digest = self->digest, .here = self->here };
     memcpy(text.open, self->keys.open, KEY);
     strcpy(text.name, self->name);
     say(self, self->joining.host_name, message, faz_ask_write(&text, &self->room, &self->joining.host, message));
@@ -275,8 +275,14 @@ void faz_join_turn(faz_lobby *self) {
     case NO_CODE:
     case ASKS_DOOR:
     case HAS_TABLE: return;
-    case KNOCKS: if (is_to_say && (joins->pake != NULL || joins->has_key)) say_knock(self); break;
-    case SAYS_HELLO: if (is_to_say) say_hello(self); break;
+    case KNOCKS:
+        if (is_to_say && (joins->pake != NULL || joins->has_key))
+            say_knock(self);
+        break;
+    case SAYS_HELLO:
+        if (is_to_say)
+            say_hello(self);
+        break;
     case ASKS_TO_JOIN:
         if (is_to_say)
             say_ask(self, false);

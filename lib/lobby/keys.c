@@ -19,9 +19,7 @@ static void follow(uint8_t *out, size_t length, const char *what, const uint8_t 
 
 /* ---- the code */
 
-void faz_code_of(uint8_t code[CODE_BYTES], const uint8_t host[KEY]) {
-    follow(code, CODE_BYTES, "fazgrond code 1", host, KEY);
-}
+void faz_code_of(uint8_t code[CODE_BYTES], const uint8_t host[KEY]) { follow(code, CODE_BYTES, "fazgrond code 1", host, KEY); }
 
 /* A code, and behind it 12 bits that follow from it. */
 static void complete(uint8_t out[CODE_BYTES + CHECKED], const uint8_t code[CODE_BYTES]) {
@@ -53,7 +51,7 @@ static int sign_of(char letter) {
 }
 
 bool faz_code_read(const char *text, uint8_t code[CODE_BYTES]) {
-    uint8_t all[CODE_BYTES + CHECKED + 1] = {0}, due[CODE_BYTES + CHECKED];
+    uint8_t all[CODE_BYTES + CHECKED + 1] = { 0 }, due[CODE_BYTES + CHECKED];
     unsigned bit = 0;
     for (; *text != 0; text++) {
         int sign = sign_of(*text);
@@ -80,7 +78,7 @@ void faz_short_write(const char plate[PLATE_TEXT], const char secret[SHORT_SECRE
 }
 
 bool faz_short_read(const char *text, char plate[PLATE_TEXT], char secret[SHORT_SECRET]) {
-    char signs[SHORT_SIGNS + 1] = {0};
+    char signs[SHORT_SIGNS + 1] = { 0 };
     int count = 0;
     for (; *text != 0; text++) {
         int sign = sign_of(*text);
@@ -104,9 +102,7 @@ void faz_short_draw(char secret[SHORT_SECRET]) {
 
 /* ---- rooms */
 
-void faz_room_named(room *self, const uint8_t token[CODE_BYTES]) {
-    sodium_bin2hex(self->name, sizeof self->name, token, CODE_BYTES);
-}
+void faz_room_named(room *self, const uint8_t token[CODE_BYTES]) { sodium_bin2hex(self->name, sizeof self->name, token, CODE_BYTES); }
 
 void faz_room_of(room *self, const uint8_t code[CODE_BYTES]) {
     uint8_t name[DIGITS / 2];
@@ -119,9 +115,7 @@ void faz_room_of(room *self, const uint8_t code[CODE_BYTES]) {
 
 static const char VOUCHED[] = "fazgrond speaks 1";
 
-void faz_host_draw(uint8_t open[KEY], uint8_t secret[SECRET]) {
-    crypto_sign_keypair(open, secret);
-}
+void faz_host_draw(uint8_t open[KEY], uint8_t secret[SECRET]) { crypto_sign_keypair(open, secret); }
 
 static void vouched(uint8_t out[sizeof VOUCHED + KEY], const uint8_t speaks[KEY]) {
     memcpy(out, VOUCHED, sizeof VOUCHED);
@@ -174,9 +168,7 @@ void faz_pair_words(const pair *self, char out[WORDS]) {
 
 /* ---- keys that were here */
 
-void faz_seen_note(seen_keys *self, const uint8_t open[KEY]) {
-    memcpy(self->key[self->count++ % SEEN], open, KEY);
-}
+void faz_seen_note(seen_keys *self, const uint8_t open[KEY]) { memcpy(self->key[self->count++ % SEEN], open, KEY); }
 
 bool faz_seen_has(const seen_keys *self, const uint8_t open[KEY]) {
     uint32_t kept = self->count < SEEN ? self->count : SEEN;

@@ -14,8 +14,8 @@ enum {
     KEY = 32,
     SECRET = 64, /* of the host */
     PROOF = 64,
-    SEAL = 40,  /* bytes that a sealed message is longer */
-    WORDS = 12  /* room for them */
+    SEAL = 40, /* bytes that a sealed message is longer */
+    WORDS = 12 /* room for them */
 };
 
 /* ---- The code. No server is trusted: it isn't what a server was told, and only its host has the key that it is a hash of. */

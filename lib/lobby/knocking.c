@@ -111,7 +111,7 @@ static size_t prove(faz_lobby *self, knocker *one, size_t length) {
 }
 
 static void reply(faz_lobby *self, knocker *one, const knock *came) {
-    knock text = {.step = came->step};
+    knock text = { .step = came->step };
     memcpy(text.id, one->id, KNOCK_ID);
     pake_answer now = faz_pake_turn(one->pake, came->bytes, came->length, text.bytes, &text.length);
     self->hosting.has_worked = true;

@@ -81,7 +81,7 @@ static void forget(faz_lobby *self, comer *one) {
 static void tell(faz_lobby *self, comer *to) {
     uint8_t message[BROKER_MESSAGE];
     char subject[BROKER_SUBJECT];
-    answer text = {.counter = ++to->answers, .what = to->is_placed ? BEGINS : to->is_let_in ? SEATED : WAITS};
+    answer text = { .counter = ++to->answers, .what = to->is_placed ? BEGINS : to->is_let_in ? SEATED : WAITS };
     strcpy(text.name, self->name);
     text.table = self->table;
     text.table.me = to->place;
@@ -97,7 +97,7 @@ static void tell(faz_lobby *self, comer *to) {
 static void refuse(faz_lobby *self, comer *to, faz_lobby_why why) {
     uint8_t message[BROKER_MESSAGE];
     char subject[BROKER_SUBJECT];
-    answer text = {.counter = ++to->answers, .what = REFUSED, .why = why};
+    answer text = { .counter = ++to->answers, .what = REFUSED, .why = why };
     faz_inbox_subject(to->inbox, subject);
     faz_lobby_broker_say(self->broker, subject, NULL, message, faz_answer_write(&text, &to->pair, message));
     forget(self, to);
@@ -105,11 +105,11 @@ static void refuse(faz_lobby *self, comer *to, faz_lobby_why why) {
 
 static void tell_others(faz_lobby *self, const comer *of) {
     uint8_t message[BROKER_MESSAGE];
-    news text = {of->news, of->place, self->table.member[of->place]};
+    news text = { of->news, of->place, self->table.member[of->place] };
     for (uint32_t machine = 0; machine < self->table.machines; machine++)
         if (faz_mesh_has_line(self, machine) && machine != of->place)
             faz_lobby_broker_say(self->broker, self->other[machine].subject, NULL, message,
-                       faz_news_write(self->table.me, &text, &self->other[machine].pair, message));
+                                 faz_news_write(self->table.me, &text, &self->other[machine].pair, message));
 }
 
 /* Gives who comes a place, once there is one. */
@@ -117,7 +117,7 @@ static void place(faz_lobby *self, comer *one) {
     uint32_t found = one->is_let_in && !one->is_placed ? place_for(self, one) : FAZGROND_NO_MACHINE;
     if (found == FAZGROND_NO_MACHINE)
         return;
-    member who = {0};
+    member who = { 0 };
     memcpy(who.open, one->pair.theirs, KEY);
     memcpy(who.inbox, one->inbox, INBOX);
     strcpy(who.name, one->name);
@@ -172,8 +172,7 @@ static void take_in(faz_lobby *self, comer *one, const ask *came, const room *in
     faz_pair_words(&one->pair, event->text);
 }
 
-static void hear_ask(faz_lobby *self, const broker_message *message, const uint8_t inbox[INBOX], const room *in,
-                     const uint8_t open[KEY]) {
+static void hear_ask(faz_lobby *self, const broker_message *message, const uint8_t inbox[INBOX], const room *in, const uint8_t open[KEY]) {
     ask came;
     comer *one = faz_seen_has(&self->hosting.gone, open) ? NULL : comer_of(self, open);
     if (one == NULL)
@@ -200,7 +199,7 @@ static void hear_ask(faz_lobby *self, const broker_message *message, const uint8
 static void hear_hello(faz_lobby *self, const broker_message *message) {
     uint8_t out[BROKER_MESSAGE];
     hello came;
-    offer ours = {.version = LOBBY_VERSION};
+    offer ours = { .version = LOBBY_VERSION };
     if (!answers(self) || !faz_hello_read(&came, &self->later, message->bytes, message->length))
         return;
     memcpy(ours.host, self->table.host, KEY);

@@ -53,10 +53,11 @@ void faz_lobby_end(faz_lobby *self, faz_lobby_why why, const char *text) {
 }
 
 faz_lobby_stage faz_lobby_stage_of(const faz_lobby *self) {
-    return self->is_ready ? FAZ_LOBBY_READY
-         : self->is_over ? FAZ_LOBBY_OVER
-         : self->is_known ? FAZ_LOBBY_CONNECTING
-         : self->has_been_there ? FAZ_LOBBY_MEETING : FAZ_LOBBY_REACHING;
+    return self->is_ready      ? FAZ_LOBBY_READY
+        : self->is_over        ? FAZ_LOBBY_OVER
+        : self->is_known       ? FAZ_LOBBY_CONNECTING
+        : self->has_been_there ? FAZ_LOBBY_MEETING
+                               : FAZ_LOBBY_REACHING;
 }
 
 /* ---- opening and closing */
@@ -231,7 +232,7 @@ static void look_at_broker(faz_lobby *self) {
     if (!is_there && !self->is_away_told && (self->has_been_there || why != NULL)) {
         self->is_away_told = true;
         faz_lobby_copy(faz_lobby_tell(self, FAZ_LOBBY_AWAY, FAZGROND_NO_MACHINE, "")->text, FAZ_LOBBY_TEXT_ROOM,
-                   why != NULL ? why : "the broker isn't there");
+                       why != NULL ? why : "the broker isn't there");
     }
     if (is_there)
         self->is_away_told = false;

@@ -22,9 +22,7 @@ static bool is_other(const faz_lobby *self, uint32_t machine) {
     return self->is_known && machine < self->table.machines && machine != self->table.me;
 }
 
-bool faz_mesh_has_line(const faz_lobby *self, uint32_t machine) {
-    return is_other(self, machine) && self->other[machine].line != NULL;
-}
+bool faz_mesh_has_line(const faz_lobby *self, uint32_t machine) { return is_other(self, machine) && self->other[machine].line != NULL; }
 
 bool faz_mesh_is_vacant(const faz_lobby *self, uint32_t machine) {
     return is_other(self, machine) && self->table.member[machine].is_vacant;
@@ -81,7 +79,7 @@ static bool open_line(faz_lobby *self, uint32_t machine) {
 
 /* Signals may have come before the table: a broker keeps the order of one sender alone. */
 static void hear_early(faz_lobby *self) {
-    broker_message message = {0};
+    broker_message message = { 0 };
     for (uint32_t at = 0; at < self->earlies; at++) {
         message.length = self->early[at].length;
         memcpy(message.bytes, self->early[at].bytes, message.length);
@@ -113,13 +111,9 @@ static void open_lines(faz_lobby *self) {
     hear_early(self);
 }
 
-static void close_line(void *of) {
-    faz_line_close(of);
-}
+static void close_line(void *of) { faz_line_close(of); }
 
-static void closed(void *of) {
-    (void)of;
-}
+static void closed(void *of) { (void)of; }
 
 /* A line is closed beside the game, since that may take a while. Null: it is closed already. */
 static aside *close_aside(faz_line *line) {
@@ -188,8 +182,8 @@ static bool is_silent(const faz_lobby *self, uint32_t place) {
 static void hear_news(faz_lobby *self, uint32_t from, const broker_message *message) {
     news came;
     if (!self->table.lasts || !faz_news_read(&came, &self->other[from].pair, message->bytes, message->length)
-        || came.counter <= self->other[from].news || came.place == from
-        || !is_silent(self, came.place) || faz_mesh_knows(self, came.who.open))
+        || came.counter <= self->other[from].news || came.place == from || !is_silent(self, came.place)
+        || faz_mesh_knows(self, came.who.open))
         return;
     self->other[from].news = came.counter;
     faz_mesh_replace(self, came.place, &came.who);
@@ -216,7 +210,7 @@ static void tell_signals(faz_lobby *self, other *to) {
 
 /* ---- a turn */
 
-static const char *const WAYS[] = {"no way", "by LAN", "directly over the internet", "by a relay"};
+static const char *const WAYS[] = { "no way", "by LAN", "directly over the internet", "by a relay" };
 
 /* A line that is heard before this machine has a way to send isn't up yet. */
 static void note_stage(faz_lobby *self, uint32_t machine) {
@@ -227,8 +221,7 @@ static void note_stage(faz_lobby *self, uint32_t machine) {
         return;
     of->seen = state.stage;
     of->was_up = of->was_up || state.stage == FAZ_LINE_UP;
-    faz_lobby_what what = state.stage == FAZ_LINE_UP ? FAZ_LOBBY_UP : state.stage == FAZ_LINE_SILENT ? FAZ_LOBBY_SILENT
-                        : FAZ_LOBBY_BLOCKED;
+    faz_lobby_what what = state.stage == FAZ_LINE_UP ? FAZ_LOBBY_UP : state.stage == FAZ_LINE_SILENT ? FAZ_LOBBY_SILENT : FAZ_LOBBY_BLOCKED;
     strcpy(faz_lobby_tell(self, what, machine, self->table.member[machine].name)->text, WAYS[state.way]);
 }
 

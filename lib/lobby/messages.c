@@ -38,9 +38,7 @@ void faz_inbox_subject(const uint8_t inbox[INBOX], char out[BROKER_SUBJECT]) {
     snprintf(out, BROKER_SUBJECT, "%s%s", INBOXES, key);
 }
 
-void faz_room_subject(const room *self, char out[BROKER_SUBJECT]) {
-    snprintf(out, BROKER_SUBJECT, "%s%s", ROOMS, self->name);
-}
+void faz_room_subject(const room *self, char out[BROKER_SUBJECT]) { snprintf(out, BROKER_SUBJECT, "%s%s", ROOMS, self->name); }
 
 /* What is behind the front of all inboxes; null if that isn't there. */
 static const char *inbox_name(const char *subject) {
@@ -60,7 +58,7 @@ bool faz_inbox_is_older(const char *subject) {
 /* ---- what gets a key by a short code */
 
 size_t faz_knock_write(const knock *self, message_kind kind, uint8_t out[BROKER_MESSAGE]) {
-    cursor to = {out, BROKER_MESSAGE - 1, true};
+    cursor to = { out, BROKER_MESSAGE - 1, true };
     faz_cursor_put_number(&to, kind, 1);
     faz_cursor_put(&to, self->id, KNOCK_ID);
     faz_cursor_put_number(&to, self->step, 1);
@@ -75,7 +73,7 @@ bool faz_knock_read(knock *self, message_kind kind, const uint8_t *bytes, size_t
     if (length == 0 || length > sizeof copy || bytes[0] != (uint8_t)kind)
         return false;
     memcpy(copy, bytes + 1, length - 1);
-    cursor from = {copy, length - 1, true};
+    cursor from = { copy, length - 1, true };
     faz_cursor_get(&from, self->id, KNOCK_ID);
     self->step = (uint8_t)faz_cursor_get_number(&from, 1);
     self->is_wrong = faz_cursor_get_number(&from, 1) != 0;
@@ -88,8 +86,7 @@ bool faz_knock_read(knock *self, message_kind kind, const uint8_t *bytes, size_t
 
 /* ---- what all who have the code can read */
 
-static size_t seal_for_all(const room *in, uint8_t out[BROKER_MESSAGE], message_kind kind, const uint8_t *inside,
-                           const cursor *end) {
+static size_t seal_for_all(const room *in, uint8_t out[BROKER_MESSAGE], message_kind kind, const uint8_t *inside, const cursor *end) {
     size_t length = (size_t)(end->at - inside);
     out[0] = (uint8_t)kind;
     faz_room_seal(in, out + 1, (uint8_t)kind, inside, length);
@@ -100,12 +97,12 @@ static size_t seal_for_all(const room *in, uint8_t out[BROKER_MESSAGE], message_
 static cursor open_for_all(const room *in, uint8_t *inside, message_kind kind, const uint8_t *bytes, size_t length) {
     bool is_good = length > SEAL && length < BROKER_MESSAGE && bytes[0] == (uint8_t)kind
         && faz_room_open(in, inside, (uint8_t)kind, bytes + 1, length - 1);
-    return (cursor){inside, is_good ? length - 1 - SEAL : 0, is_good};
+    return (cursor){ inside, is_good ? length - 1 - SEAL : 0, is_good };
 }
 
 size_t faz_hello_write(const hello *self, const room *in, uint8_t out[BROKER_MESSAGE]) {
     uint8_t inside[BROKER_MESSAGE];
-    cursor to = {inside, sizeof inside - SEAL - 2, true};
+    cursor to = { inside, sizeof inside - SEAL - 2, true };
     faz_cursor_put_number(&to, self->version, 1);
     faz_cursor_put(&to, self->open, KEY);
     return seal_for_all(in, out, HELLO, inside, &to);
@@ -122,7 +119,7 @@ bool faz_hello_read(hello *self, const room *in, const uint8_t *bytes, size_t le
 
 size_t faz_offer_write(const offer *self, const room *in, uint8_t out[BROKER_MESSAGE]) {
     uint8_t inside[BROKER_MESSAGE];
-    cursor to = {inside, sizeof inside - SEAL - 2, true};
+    cursor to = { inside, sizeof inside - SEAL - 2, true };
     faz_cursor_put_number(&to, self->version, 1);
     faz_cursor_put(&to, self->host, KEY);
     faz_cursor_put(&to, self->speaks, KEY);
@@ -147,7 +144,7 @@ bool faz_offer_read(offer *self, const room *in, const uint8_t *bytes, size_t le
 
 size_t faz_ask_write(const ask *self, const room *in, const pair *between, uint8_t out[BROKER_MESSAGE]) {
     uint8_t inner[BROKER_MESSAGE], inside[BROKER_MESSAGE];
-    cursor to = {inner, sizeof inner - 2 * SEAL - KEY - 2, true}, all = {inside, sizeof inside - SEAL - 2, true};
+    cursor to = { inner, sizeof inner - 2 * SEAL - KEY - 2, true }, all = { inside, sizeof inside - SEAL - 2, true };
     faz_cursor_put_number(&to, self->counter, 4);
     faz_cursor_put_number(&to, self->leaves, 1);
     faz_cursor_put_number(&to, self->digest, 8);
@@ -172,7 +169,7 @@ bool faz_ask_read(ask *self, const room *in, const pair *between, const uint8_t 
     cursor all = open_for_all(in, inside, ASK, bytes, length);
     faz_cursor_get(&all, self->open, KEY);
     bool is_good = all.is_good && all.left >= SEAL && faz_pair_open(between, inner, ASK, all.at, all.left);
-    cursor from = {inner, is_good ? all.left - SEAL : 0, is_good};
+    cursor from = { inner, is_good ? all.left - SEAL : 0, is_good };
     self->counter = (uint32_t)faz_cursor_get_number(&from, 4);
     self->leaves = faz_cursor_get_number(&from, 1) != 0;
     self->digest = faz_cursor_get_number(&from, 8);
@@ -260,7 +257,7 @@ static void get_table(cursor *from, table *self) {
 
 size_t faz_answer_write(const answer *self, const pair *between, uint8_t out[BROKER_MESSAGE]) {
     uint8_t inside[BROKER_MESSAGE];
-    cursor to = {inside, sizeof inside - SEAL - 2, true};
+    cursor to = { inside, sizeof inside - SEAL - 2, true };
     faz_cursor_put_number(&to, self->counter, 4);
     faz_cursor_put_number(&to, self->what, 1);
     faz_cursor_put_number(&to, self->why, 1);
@@ -277,7 +274,7 @@ bool faz_answer_read(answer *self, const pair *between, const uint8_t *bytes, si
     uint8_t inside[BROKER_MESSAGE];
     bool is_good = length > SEAL && length < BROKER_MESSAGE && bytes[0] == ANSWER
         && faz_pair_open(between, inside, ANSWER, bytes + 1, length - 1);
-    cursor from = {inside, is_good ? length - 1 - SEAL : 0, is_good};
+    cursor from = { inside, is_good ? length - 1 - SEAL : 0, is_good };
     self->counter = (uint32_t)faz_cursor_get_number(&from, 4);
     self->what = (answer_what)faz_cursor_get_number(&from, 1);
     self->why = (faz_lobby_why)faz_cursor_get_number(&from, 1);
@@ -291,7 +288,7 @@ bool faz_answer_read(answer *self, const pair *between, const uint8_t *bytes, si
 
 size_t faz_news_write(uint32_t from, const news *self, const pair *between, uint8_t out[BROKER_MESSAGE]) {
     uint8_t inside[BROKER_MESSAGE];
-    cursor to = {inside, sizeof inside - SEAL - SIGNAL_HEAD - 1, true};
+    cursor to = { inside, sizeof inside - SEAL - SIGNAL_HEAD - 1, true };
     faz_cursor_put_number(&to, self->counter, 4);
     faz_cursor_put_number(&to, self->place, 1);
     put_member(&to, &self->who);
@@ -306,7 +303,7 @@ bool faz_news_read(news *self, const pair *between, const uint8_t *bytes, size_t
     uint8_t inside[BROKER_MESSAGE];
     bool is_good = length >= SIGNAL_HEAD + SEAL && length < BROKER_MESSAGE && bytes[0] == NEWS
         && faz_pair_open(between, inside, NEWS, bytes + SIGNAL_HEAD, length - SIGNAL_HEAD);
-    cursor from = {inside, is_good ? length - SIGNAL_HEAD - SEAL : 0, is_good};
+    cursor from = { inside, is_good ? length - SIGNAL_HEAD - SEAL : 0, is_good };
     self->counter = (uint32_t)faz_cursor_get_number(&from, 4);
     self->place = (uint32_t)faz_cursor_get_number(&from, 1);
     get_member(&from, &self->who);

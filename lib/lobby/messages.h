@@ -11,7 +11,7 @@
 
 enum {
     LOBBY_VERSION = 3, /* another one too where packets of a match have another */
-    INBOX = NKEY,   /* bytes of an inbox: the key of the user who hears it (pass.h) */
+    INBOX = NKEY,      /* bytes of an inbox: the key of the user who hears it (pass.h) */
     KNOCK_ID = 16,
     SIGNAL_HEAD = 2 /* bytes before what is sealed of a signal: its kind, and the machine it is of */
 };

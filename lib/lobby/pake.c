@@ -62,17 +62,18 @@ static int copy(gnutls_datum_t *to, const gnutls_datum_t *from) {
     return 0;
 }
 
-static int on_name(gnutls_session_t session, const char *name, gnutls_datum_t *salt, gnutls_datum_t *verifier,
-                   gnutls_datum_t *generator, gnutls_datum_t *prime) {
+static int on_name(gnutls_session_t session, const char *name, gnutls_datum_t *salt, gnutls_datum_t *verifier, gnutls_datum_t *generator,
+                   gnutls_datum_t *prime) {
     const pake *self = gnutls_session_get_ptr(session);
     uint8_t bytes[SALT];
-    gnutls_datum_t drawn = {bytes, sizeof bytes};
+    gnutls_datum_t drawn = { bytes, sizeof bytes };
     if (strcmp(name, self->name) != 0 || gnutls_rnd(GNUTLS_RND_NONCE, bytes, sizeof bytes) != 0)
         return -1;
     return copy(salt, &drawn) != 0 || copy(generator, &gnutls_srp_2048_group_generator) != 0
-                || copy(prime, &gnutls_srp_2048_group_prime) != 0
-                || gnutls_srp_verifier(self->name, self->secret, salt, generator, prime, verifier) != 0
-             ? -1 : 0;
+            || copy(prime, &gnutls_srp_2048_group_prime) != 0
+            || gnutls_srp_verifier(self->name, self->secret, salt, generator, prime, verifier) != 0
+        ? -1
+        : 0;
 }
 
 /* ---- opening */

@@ -21,9 +21,7 @@ static uint16_t sum_of(const uint8_t *bytes, size_t length) {
     return sum;
 }
 
-static size_t signs_of(size_t bytes) {
-    return (8 * bytes + SIGN_BITS - 1) / SIGN_BITS;
-}
+static size_t signs_of(size_t bytes) { return (8 * bytes + SIGN_BITS - 1) / SIGN_BITS; }
 
 /* Writes bytes, of which the last two are still to be their sum. */
 static void write_signs(uint8_t *bytes, size_t length, char *out) {
@@ -40,7 +38,7 @@ static void write_signs(uint8_t *bytes, size_t length, char *out) {
 
 /* Reads so many bytes. Only one text is taken for them, and no other one that would have the same. */
 static bool read_signs(const char *text, size_t length, uint8_t *bytes, size_t count) {
-    uint8_t all[SEED_BYTES + 1] = {0};
+    uint8_t all[SEED_BYTES + 1] = { 0 };
     unsigned bit = 0;
     if (length != signs_of(count))
         return false;
@@ -58,7 +56,7 @@ static bool read_signs(const char *text, size_t length, uint8_t *bytes, size_t c
 }
 
 void faz_nkey_write(nkey_kind kind, const uint8_t open[NKEY], char out[NKEY_TEXT]) {
-    uint8_t bytes[KEY_BYTES] = {(uint8_t)kind};
+    uint8_t bytes[KEY_BYTES] = { (uint8_t)kind };
     memcpy(bytes + 1, open, NKEY);
     write_signs(bytes, sizeof bytes, out);
 }

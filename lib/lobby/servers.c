@@ -8,9 +8,7 @@
 #include <sys/socket.h>
 #include <unistd.h>
 
-static bool fits(const char *text, size_t room) {
-    return text != NULL && *text != 0 && strlen(text) < room;
-}
+static bool fits(const char *text, size_t room) { return text != NULL && *text != 0 && strlen(text) < room; }
 
 static bool is_relay(const faz_line_relay *relay) {
     return fits(relay->address, WORD_TEXT) && fits(relay->user, WORD_TEXT) && fits(relay->password, WORD_TEXT);
@@ -36,10 +34,10 @@ static bool copy_relays(faz_lobby *self, const faz_line_relay *relays, uint32_t 
     memset(self->servers.relay_at, 0, sizeof self->servers.relay_at);
     for (uint32_t at = 0; at < count; at++) {
         strcpy(self->servers.relay[at], relays[at].address);
-        self->named[at] = (faz_line_relay){.port = relays[at].port,
-                                           .user = strcpy(self->user[at], relays[at].user),
-                                           .password = strcpy(self->password[at], relays[at].password),
-                                           .by_tcp = relays[at].by_tcp};
+        self->named[at] = (faz_line_relay){ .port = relays[at].port,
+                                            .user = strcpy(self->user[at], relays[at].user),
+                                            .password = strcpy(self->password[at], relays[at].password),
+                                            .by_tcp = relays[at].by_tcp };
     }
     keep_addresses(&self->servers, &before);
     self->named_count = count;
@@ -72,7 +70,7 @@ static void note_found(addresses *to, const struct addrinfo *found) {
 
 /* The addresses that a name has; true if there is one. With AI_NUMERICHOST names have none, and it doesn't wait. */
 static bool look_up(const char *name, int flags, addresses *to) {
-    struct addrinfo hints = {.ai_family = AF_UNSPEC, .ai_socktype = SOCK_DGRAM, .ai_flags = flags}, *found = NULL;
+    struct addrinfo hints = { .ai_family = AF_UNSPEC, .ai_socktype = SOCK_DGRAM, .ai_flags = flags }, *found = NULL;
     memset(to, 0, sizeof *to);
     if (getaddrinfo(name, NULL, &hints, &found) == 0) {
         note_found(to, found);
@@ -90,17 +88,13 @@ static bool look_all_up(servers *self, int flags) {
     return has_all;
 }
 
-static void look(void *of) {
-    look_all_up(of, 0);
-}
+static void look(void *of) { look_all_up(of, 0); }
 
-static void drop(void *of) {
-    free(of);
-}
+static void drop(void *of) { free(of); }
 
 /* Whether there is a way out to an address of IPv4: nothing is sent. */
 static bool is_reached(const char *text) {
-    struct sockaddr_in to = {.sin_family = AF_INET, .sin_port = htons(1)};
+    struct sockaddr_in to = { .sin_family = AF_INET, .sin_port = htons(1) };
     int probe = inet_pton(AF_INET, text, &to.sin_addr) == 1 ? socket(AF_INET, SOCK_DGRAM, 0) : -1;
     bool is = probe >= 0 && connect(probe, (const struct sockaddr *)&to, sizeof to) == 0;
     if (probe >= 0)
@@ -109,9 +103,7 @@ static bool is_reached(const char *text) {
 }
 
 /* Of a server's two addresses the one by IPv4, if that is reached: routers give machines other addresses there. */
-static const char *choose(const addresses *from) {
-    return is_reached(from->text[1]) ? from->text[1] : from->text[0];
-}
+static const char *choose(const addresses *from) { return is_reached(from->text[1]) ? from->text[1] : from->text[0]; }
 
 /* Those with an address; and once more by the other family, as far as there is room. */
 static uint32_t take_relays(faz_lobby *self) {
@@ -175,8 +167,8 @@ static bool renew_relays(faz_lobby *self, const faz_line_relay *relays, uint32_t
 void faz_lobby_take_servers(faz_lobby *self, const door_answer *answer) {
     faz_line_relay relays[FAZ_LINE_RELAYS];
     for (uint32_t at = 0; at < answer->relays; at++)
-        relays[at] = (faz_line_relay){answer->relay[at].address, answer->relay[at].port, answer->user, answer->password,
-                                      answer->relay[at].by_tcp};
+        relays[at] = (faz_line_relay){ answer->relay[at].address, answer->relay[at].port, answer->user, answer->password,
+                                       answer->relay[at].by_tcp };
     if (self->has_lines) {
         renew_relays(self, relays, answer->relays);
         return;

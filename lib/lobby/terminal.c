@@ -9,7 +9,7 @@ enum { SILENT = 300 /* milliseconds after which a machine may have stopped */ };
 
 /* What was typed, a line as a rule. False: nothing was. */
 static bool read_typed(char text[LOBBY_WORDS_ROOM]) {
-    struct pollfd in = {.fd = STDIN_FILENO, .events = POLLIN};
+    struct pollfd in = { .fd = STDIN_FILENO, .events = POLLIN };
     ssize_t length = poll(&in, 1, 0) == 1 ? read(STDIN_FILENO, text, LOBBY_WORDS_ROOM - 1) : 0;
     text[length > 0 ? length : 0] = 0;
     text[strcspn(text, "\r\n")] = 0;
@@ -75,8 +75,10 @@ void faz_lobby_words_of(const faz_lobby *lobby, const faz_lobby_event *event, ch
         break;
     case FAZ_LOBBY_ASKS:
         snprintf(out, room,
-                 event->who == 0 ? "%s is asked; both see %s"
-                     : comes_back(lobby, name) ? "%s comes back, and sees %s" : "%s wants to join, and sees %s", name, text);
+                 event->who == 0               ? "%s is asked; both see %s"
+                     : comes_back(lobby, name) ? "%s comes back, and sees %s"
+                                               : "%s wants to join, and sees %s",
+                 name, text);
         break;
     case FAZ_LOBBY_JOINED: snprintf(out, room, *text != 0 ? "with %s: both see %s" : "with %s", name, text); break;
     case FAZ_LOBBY_LEFT: snprintf(out, room, "%s has left", name); break;

@@ -67,8 +67,7 @@ const char *faz_lobby_words_read(lobby_words *words, faz_lobby_settings *setting
     settings->lasts = words->lasts;
     settings->stays_open = words->begin_with > 0;
     settings->has_door = settings->short_code = words->by_door;
-    if (words->stun != NULL
-        && (!copied(words->texts[0], words->stun) || !split(words->texts[0], &settings->stun, &settings->stun_port)))
+    if (words->stun != NULL && (!copied(words->texts[0], words->stun) || !split(words->texts[0], &settings->stun, &settings->stun_port)))
         return "--stun has no ADDRESS:PORT";
     if (words->relay != NULL && !read_relay(words->relay, words->texts[1], false, settings))
         return "--relay has no USER:PASSWORD@ADDRESS:PORT";

@@ -43,7 +43,8 @@ bool faz_lobby_words_enter(faz_lobby *lobby);
  * nobody. */
 uint32_t faz_lobby_words_let_in(faz_lobby *lobby, uint32_t who);
 
-/* Whether an event is of the line to a machine that has left, so that nobody has to be told. Whoever comes in its place is told of again. */
+/* Whether an event is of the line to a machine that has left, so that nobody has to be told. Whoever comes in its place is told of
+ * again. */
 bool faz_lobby_words_of_left(lobby_words *words, const faz_lobby_event *event);
 
 /* An event of a lobby in words; an empty text if a player needs none. */

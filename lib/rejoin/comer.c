@@ -109,9 +109,8 @@ static void hear_piece_of_table(faz_comer *self, uint32_t machine, const fazgron
     faz_table table;
     if (fazgrond_taker_open(&taker, name, sizeof text) != FAZGROND_OK)
         return;
-    if (fazgrond_taker_receive(&taker, self->numbers[machine], bytes, length, &heard) == FAZGROND_OK
-        && heard.what == FAZGROND_STATE_WHOLE && fazgrond_taker_bytes(&taker, text, sizeof text) == FAZGROND_OK
-        && faz_table_read(text, name->length, &table))
+    if (fazgrond_taker_receive(&taker, self->numbers[machine], bytes, length, &heard) == FAZGROND_OK && heard.what == FAZGROND_STATE_WHOLE
+        && fazgrond_taker_bytes(&taker, text, sizeof text) == FAZGROND_OK && faz_table_read(text, name->length, &table))
         hear_table(self, machine, &table);
     fazgrond_taker_close(&taker);
 }
@@ -130,8 +129,7 @@ void faz_comer_hear(faz_comer *self, uint32_t machine, const uint8_t *bytes, siz
             hear_piece_of_table(self, machine, &name, bytes, length);
         else
             hear_state(self, machine, bytes, length);
-    } else if (machine == self->host
-               && fazgrond_viewer_receive(&self->viewer, bytes, length, now, &rows) == FAZGROND_OK && rows > 0)
+    } else if (machine == self->host && fazgrond_viewer_receive(&self->viewer, bytes, length, now, &rows) == FAZGROND_OK && rows > 0)
         self->moved_at = now;
 }
 
@@ -157,8 +155,7 @@ static void ask_host(faz_comer *self) {
     if (is_ready || self->turns % RARELY == 0)
         ask_for(self, self->host, FAZ_TABLE_STATE, 0);
     if (!self->has_state
-        && fazgrond_taker_send(&self->taker, self->numbers[self->host], ASKER, PIECES, bytes, sizeof bytes, &length)
-            == FAZGROND_OK)
+        && fazgrond_taker_send(&self->taker, self->numbers[self->host], ASKER, PIECES, bytes, sizeof bytes, &length) == FAZGROND_OK)
         self->send(self->of, self->host, bytes, length);
     if (fazgrond_viewer_send(&self->viewer, self->now, bytes, sizeof bytes, &length) == FAZGROND_OK)
         self->send(self->of, self->host, bytes, length);
@@ -175,9 +172,8 @@ static bool is_left_behind(faz_comer *self, uint32_t now) {
 /* Who only watches stays with a host that is heard, though the match stands still. */
 static bool is_watching(faz_comer *self, uint32_t now) {
     fazgrond_line_state state;
-    return self->players == 0 && self->has_state && !self->has_next
-        && fazgrond_viewer_look(&self->viewer, now, &state) == FAZGROND_OK && state.is_playing != 0
-        && state.is_silent == 0;
+    return self->players == 0 && self->has_state && !self->has_next && fazgrond_viewer_look(&self->viewer, now, &state) == FAZGROND_OK
+        && state.is_playing != 0 && state.is_silent == 0;
 }
 
 int32_t faz_comer_turn(faz_comer *self, uint32_t now) {

@@ -4,12 +4,12 @@
 #include <string.h>
 
 enum {
-    HOST = 0,           /* as which machine a host names itself: each line has a number of its own */
-    PIECES = 8,         /* that are answered of an ask */
-    CAUGHT_UP = 30,     /* so many rows may be missing of who is proposed */
-    LONG = 300,         /* an epoch with so many rows is ended for who begins to follow it */
-    TOLD_AT_ONCE = 4,   /* so often, as an epoch has ended, its last rows are told: a machine that is alone forgets it in the next turn */
-    WAITED_FOR = 1000,  /* milliseconds after a seam in which nobody is proposed before who watches has come over it */
+    HOST = 0,            /* as which machine a host names itself: each line has a number of its own */
+    PIECES = 8,          /* that are answered of an ask */
+    CAUGHT_UP = 30,      /* so many rows may be missing of who is proposed */
+    LONG = 300,          /* an epoch with so many rows is ended for who begins to follow it */
+    TOLD_AT_ONCE = 4,    /* so often, as an epoch has ended, its last rows are told: a machine that is alone forgets it in the next turn */
+    WAITED_FOR = 1000,   /* milliseconds after a seam in which nobody is proposed before who watches has come over it */
     HEARD_WITHIN = 2000, /* milliseconds in which who has come in has to be heard .. */
     STOOD = 100          /* .. of which a turn counts so many at most: while this machine stands still it hears nobody */
 };
@@ -27,8 +27,7 @@ static bool owns(const fazgrond_epoch *epoch, uint32_t machine) {
 static uint32_t who_came(const faz_hosting *self, const fazgrond_epoch *epoch) {
     uint32_t came = 0, has_stayed;
     for (uint32_t machine = 0; machine < FAZGROND_MACHINES && self->has_begun; machine++)
-        if (owns(epoch, machine) && fazgrond_peer_has_stayed(self->peer, (uint8_t)machine, &has_stayed) == FAZGROND_OK
-            && has_stayed == 0)
+        if (owns(epoch, machine) && fazgrond_peer_has_stayed(self->peer, (uint8_t)machine, &has_stayed) == FAZGROND_OK && has_stayed == 0)
             came |= 1u << machine;
     return came;
 }
@@ -68,17 +67,14 @@ int32_t faz_hosting_begin(faz_hosting *self, const uint8_t *state, size_t length
 static void answer_ask(faz_hosting *self, uint32_t to, const uint8_t *bytes, size_t length) {
     uint8_t piece[FAZGROND_DATAGRAM];
     size_t size;
-    if (fazgrond_giver_reply(&self->ready, self->seat[to].number, HOST, bytes, length, 0, piece, sizeof piece, &size)
-        == FAZGROND_OK) {
+    if (fazgrond_giver_reply(&self->ready, self->seat[to].number, HOST, bytes, length, 0, piece, sizeof piece, &size) == FAZGROND_OK) {
         self->seat[to].is_ready = true;
         return;
     }
     for (size_t place = 0; place < PIECES; place++) {
-        int32_t code = fazgrond_giver_reply(&self->about, self->seat[to].number, HOST, bytes, length, place, piece,
-                                            sizeof piece, &size);
+        int32_t code = fazgrond_giver_reply(&self->about, self->seat[to].number, HOST, bytes, length, place, piece, sizeof piece, &size);
         if (code == FAZGROND_OTHER_STATE)
-            code = fazgrond_giver_reply(&self->state, self->seat[to].number, HOST, bytes, length, place, piece,
-                                        sizeof piece, &size);
+            code = fazgrond_giver_reply(&self->state, self->seat[to].number, HOST, bytes, length, place, piece, sizeof piece, &size);
         if (code != FAZGROND_OK)
             return;
         self->send(self->of, to, piece, size);
@@ -148,8 +144,7 @@ static bool is_free(const faz_hosting *self, const faz_seat *seat, uint32_t sett
         owned |= is_machine(self->table.epoch.owners[player]) ? 1u << player : 0;
     if ((seat->players & owned) == 0)
         return true;
-    return settled > 0 && fazgrond_settled_row(self->session, settled - 1, &row) == FAZGROND_OK
-        && (seat->players & owned & ~row.gone) == 0;
+    return settled > 0 && fazgrond_settled_row(self->session, settled - 1, &row) == FAZGROND_OK && (seat->players & owned & ~row.gone) == 0;
 }
 
 /* The first of this machine's players, counted from 1; 0 if it has none. */

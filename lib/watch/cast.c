@@ -10,12 +10,12 @@
 #include <time.h>
 
 enum {
-    KEPT = 4096,       /* entries that wait for the broker: over a minute at 60 frames a second */
-    SNAPS = 4,         /* snapshots among them */
-    PENDING = 256,     /* rows of an epoch that may end */
-    NEAR = 32,         /* a state so close before a snapshot's frame is kept, and stepped up to it */
+    KEPT = 4096,                 /* entries that wait for the broker: over a minute at 60 frames a second */
+    SNAPS = 4,                   /* snapshots among them */
+    PENDING = 256,               /* rows of an epoch that may end */
+    NEAR = 32,                   /* a state so close before a snapshot's frame is kept, and stepped up to it */
     AFTER_GAP = FAZ_CHAPTER + 2, /* free entries that end a gap */
-    ACK = 1000,        /* milliseconds until a message is sent again */
+    ACK = 1000,                  /* milliseconds until a message is sent again */
     PAUSE = 100,
     NO_GAP = -1
 };
@@ -73,9 +73,7 @@ static int64_t millis(void) {
 
 /* The game's side. */
 
-static size_t room(faz_cast *self) {
-    return KEPT - (atomic_load_explicit(&self->given, memory_order_relaxed) - atomic_load(&self->done));
-}
+static size_t room(faz_cast *self) { return KEPT - (atomic_load_explicit(&self->given, memory_order_relaxed) - atomic_load(&self->done)); }
 
 static void push(faz_cast *self, const entry *one) {
     size_t given = atomic_load_explicit(&self->given, memory_order_relaxed);
@@ -96,8 +94,8 @@ static void push_snap(faz_cast *self) {
         return;
     memcpy(snap_at(self, slot), self->near, self->game.size);
     atomic_store(&self->is_taken[slot], true);
-    push(self, &(entry){ .kind = FAZ_SNAP, .frame = self->frame, .slot = slot,
-                         .gap = self->gap != NO_GAP ? (uint32_t)self->gap : self->frame });
+    push(self,
+         &(entry){ .kind = FAZ_SNAP, .frame = self->frame, .slot = slot, .gap = self->gap != NO_GAP ? (uint32_t)self->gap : self->frame });
     self->gap = NO_GAP;
     self->is_full = false;
 }
@@ -325,8 +323,7 @@ static bool send_entry(faz_cast *self, const entry *one) {
         return send_row(self, one);
     if (one->kind == FAZ_SNAP)
         return send_snap(self, one);
-    return send_run(self)
-        && deliver(self, FAZ_END, one->frame, faz_write_end(self->bytes, self->number, one->frame, self->reason));
+    return send_run(self) && deliver(self, FAZ_END, one->frame, faz_write_end(self->bytes, self->number, one->frame, self->reason));
 }
 
 /* Waits until something was given, or a while. */
@@ -377,15 +374,17 @@ static const char *fault_of(const faz_cast_settings *settings) {
         return "a name is 1 to 32 letters, digits, - and _";
     if (settings->game->size == 0 || settings->game->size > FAZ_MOST_STATE)
         return "a state has 1 to 1,000,000 bytes: more doesn't fit into a message of the broker";
-    if (settings->session->players < 1 || settings->session->players > FAZGROND_PLAYERS || settings->rate == 0
-        || settings->rate > 1000)
+    if (settings->session->players < 1 || settings->session->players > FAZGROND_PLAYERS || settings->rate == 0 || settings->rate > 1000)
         return "a match has 1 to 8 players, and 1 to 1,000 frames a second";
     return NULL;
 }
 
 static faz_head head_of(const faz_cast_settings *settings) {
-    faz_head head = { .players = settings->session->players, .rate = settings->rate, .profile = settings->session->profile,
-                      .threshold = settings->session->threshold, .size = (uint32_t)settings->game->size };
+    faz_head head = { .players = settings->session->players,
+                      .rate = settings->rate,
+                      .profile = settings->session->profile,
+                      .threshold = settings->session->threshold,
+                      .size = (uint32_t)settings->game->size };
     memcpy(head.masks, settings->session->masks, sizeof head.masks);
     strcpy(head.game, settings->game->name);
     return head;
@@ -457,8 +456,11 @@ static const char *text_of(natsStatus status) {
 }
 
 void faz_cast_look(faz_cast *self, faz_cast_state *state) {
-    *state = (faz_cast_state){ .rows = self->frame, .stored = atomic_load(&self->stored), .lost = atomic_load(&self->lost),
-                               .again = atomic_load(&self->again), .disputed = atomic_load(&self->disputed),
+    *state = (faz_cast_state){ .rows = self->frame,
+                               .stored = atomic_load(&self->stored),
+                               .lost = atomic_load(&self->lost),
+                               .again = atomic_load(&self->again),
+                               .disputed = atomic_load(&self->disputed),
                                .why = text_of((natsStatus)atomic_load(&self->failure)) };
 }
 

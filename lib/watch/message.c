@@ -113,8 +113,11 @@ bool faz_read_head(const uint8_t *bytes, size_t length, uint64_t number, faz_hea
     if (!is_packet(bytes, length, FAZ_HEAD, HEAD_FIELDS + 1, number) || length >= HEAD + HEAD_FIELDS + FAZ_NAME)
         return false;
     const uint8_t *at = bytes + HEAD;
-    faz_head read = { .players = (uint32_t)get(at + 2, 2), .rate = (uint32_t)get(at + 4, 2),
-                      .profile = (uint32_t)get(at + 6, 2), .threshold = (uint32_t)get(at + 8, 2), .size = get_word(at + 16) };
+    faz_head read = { .players = (uint32_t)get(at + 2, 2),
+                      .rate = (uint32_t)get(at + 4, 2),
+                      .profile = (uint32_t)get(at + 6, 2),
+                      .threshold = (uint32_t)get(at + 8, 2),
+                      .size = get_word(at + 16) };
     for (size_t player = 0; player < FAZGROND_PLAYERS; player++)
         read.masks[player] = get_word(at + 20 + 4 * player);
     memcpy(read.game, at + HEAD_FIELDS, length - HEAD - HEAD_FIELDS);
@@ -210,8 +213,7 @@ static bool greet(fazgrond_viewer *viewer, const fazgrond_line_settings *line) {
     return fazgrond_viewer_receive(viewer, hello, sizeof hello, 0, &taken) == FAZGROND_OK;
 }
 
-uint32_t faz_read_rows(const uint8_t *bytes, size_t length, uint64_t number, uint32_t players, uint32_t *first,
-                       fazgrond_row *rows) {
+uint32_t faz_read_rows(const uint8_t *bytes, size_t length, uint64_t number, uint32_t players, uint32_t *first, fazgrond_row *rows) {
     if (length < FIRST + HEAD)
         return 0;
     uint32_t frame = get_word(bytes), count = 0, taken;
@@ -282,8 +284,7 @@ size_t faz_write_end(uint8_t *out, uint64_t number, uint32_t frames, const char 
 }
 
 bool faz_read_end(const uint8_t *bytes, size_t length, uint64_t number, uint32_t *frames, char *reason) {
-    if (!is_packet(bytes, length, FAZ_END, 4, number) || length >= HEAD + 4 + FAZ_REASON
-        || get_word(bytes + HEAD) > FAZ_LAST_FRAME)
+    if (!is_packet(bytes, length, FAZ_END, 4, number) || length >= HEAD + 4 + FAZ_REASON || get_word(bytes + HEAD) > FAZ_LAST_FRAME)
         return false;
     *frames = get_word(bytes + HEAD);
     memset(reason, 0, FAZ_REASON);

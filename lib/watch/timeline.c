@@ -54,8 +54,7 @@ static faz_taken take_head(faz_timeline *self, const uint8_t *bytes, size_t leng
     faz_head head = { 0 };
     uint32_t version = faz_other_version(bytes, length, self->number);
     self->version = version != 0 ? version : self->version;
-    if (!faz_read_head(bytes, length, self->number, &head) || head.size != self->game->size
-        || strcmp(head.game, self->game->name) != 0)
+    if (!faz_read_head(bytes, length, self->number, &head) || head.size != self->game->size || strcmp(head.game, self->game->name) != 0)
         return FAZ_MALFORMED;
     if (self->has_head)
         return memcmp(&head, &self->head, sizeof head) == 0 ? FAZ_REPEATED : FAZ_OTHER;
@@ -131,7 +130,7 @@ static faz_taken take(faz_timeline *self, const uint8_t *bytes, size_t length, v
     case FAZ_SUM: return faz_read_sum(bytes, length, self->number, &sum) ? take_sum(self, &sum) : FAZ_MALFORMED;
     case FAZ_SNAP:
         return faz_read_snap(bytes, length, self->number, self->game, self->head.players, &sum, state) ? take_sum(self, &sum)
-                                                                                                     : FAZ_MALFORMED;
+                                                                                                       : FAZ_MALFORMED;
     default: return FAZ_MALFORMED;
     }
 }

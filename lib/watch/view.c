@@ -12,11 +12,14 @@
 #include <time.h>
 
 enum {
-    AHEAD = 1024,       /* rows are looked for so far ahead of what is shown */
-    CATCH_UP = 8,       /* frames in a turn, at most */
+    AHEAD = 1024,        /* rows are looked for so far ahead of what is shown */
+    CATCH_UP = 8,        /* frames in a turn, at most */
     SLACK = 2 * FAZ_RUN, /* so many frames over the cushion are played at the usual speed */
-    PATIENCE = 60,      /* turns until less than a cushion is played, and until an end is believed */
-    POLL = 20, AGAIN = 500, SILENCE = 1000, LAST = 100, /* milliseconds */
+    PATIENCE = 60,       /* turns until less than a cushion is played, and until an end is believed */
+    POLL = 20,
+    AGAIN = 500,
+    SILENCE = 1000,
+    LAST = 100, /* milliseconds */
     CHECKS = 8
 };
 
@@ -108,8 +111,7 @@ static bool is_found(faz_view *self, natsMsg *message, faz_kind kind, uint32_t f
     const uint8_t *bytes = (const uint8_t *)natsMsg_GetData(message);
     size_t length = (size_t)natsMsg_GetDataLength(message);
     faz_taken taken = take(self, message);
-    return (taken == FAZ_NEW || taken == FAZ_REPEATED) && faz_kind_of(bytes, length) == kind
-        && faz_frame_of(bytes, length) == frame;
+    return (taken == FAZ_NEW || taken == FAZ_REPEATED) && faz_kind_of(bytes, length) == kind && faz_frame_of(bytes, length) == frame;
 }
 
 /* Reads the header, or the snapshot of a frame: the first valid one. NATS_NOT_FOUND if there is none, NATS_ILLEGAL_STATE if the
@@ -121,8 +123,7 @@ static natsStatus find(faz_view *self, faz_kind kind, uint32_t frame) {
     faz_subject(subject, self->match, kind, frame / FAZ_CHAPTER);
     for (bool is_there = false; !is_there && status == NATS_OK;) {
         natsMsg *message = NULL;
-        status = atomic_load(&self->is_closing) ? NATS_ILLEGAL_STATE
-                                                : faz_broker_next(&self->broker, &message, subject, place);
+        status = atomic_load(&self->is_closing) ? NATS_ILLEGAL_STATE : faz_broker_next(&self->broker, &message, subject, place);
         if (status != NATS_OK)
             continue;
         place = natsMsg_GetSequence(message) + 1;
@@ -207,8 +208,7 @@ static bool read_chapter(faz_view *self, uint32_t chapter) {
     if (chapter != self->cursor_chapter)
         self->cursor = 1;
     self->cursor_chapter = chapter;
-    while ((status = faz_broker_next(&self->broker, &message, subject, self->cursor)) == NATS_OK
-           && !atomic_load(&self->is_closing)) {
+    while ((status = faz_broker_next(&self->broker, &message, subject, self->cursor)) == NATS_OK && !atomic_load(&self->is_closing)) {
         self->cursor = natsMsg_GetSequence(message) + 1;
         take(self, message);
         natsMsg_Destroy(message);

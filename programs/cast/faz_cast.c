@@ -11,16 +11,15 @@
 
 #include <stdio.h>
 
-static const char usage[] =
-    "faz-cast [OPTIONS] MATCH PLAYERS    publishes a match of bots, with this name\n"
-    "faz-cast --create [OPTIONS]         makes the stream that has all matches, and ends\n"
-    "  --broker URL    of the broker: nats://127.0.0.1:4222, or several with a comma between each two\n"
-    "  --replicas N    so many servers keep the stream (1)\n"
-    "  --me NAME       who publishes (bots): another name at each who publishes this match\n"
-    "  --seed N        of the bots (1)\n"
-    "  --frames N      ends after so many frames, and prints the state (3600)\n"
-    "  --speed N       so many times as fast\n"
-    "To publish a match that is played, see duel --cast.\n";
+static const char usage[] = "faz-cast [OPTIONS] MATCH PLAYERS    publishes a match of bots, with this name\n"
+                            "faz-cast --create [OPTIONS]         makes the stream that has all matches, and ends\n"
+                            "  --broker URL    of the broker: nats://127.0.0.1:4222, or several with a comma between each two\n"
+                            "  --replicas N    so many servers keep the stream (1)\n"
+                            "  --me NAME       who publishes (bots): another name at each who publishes this match\n"
+                            "  --seed N        of the bots (1)\n"
+                            "  --frames N      ends after so many frames, and prints the state (3600)\n"
+                            "  --speed N       so many times as fast\n"
+                            "To publish a match that is played, see duel --cast.\n";
 
 static struct {
     const char *broker, *me;
@@ -78,8 +77,10 @@ static int publish(const char *match, long players) {
     if (!duel_open(&field, (uint32_t)players))
         return fail("a duel has 2 to 4 players");
     fazgrond_settings session = fazgrond_settings_for((uint32_t)players);
-    faz_cast *cast = faz_cast_open(&(faz_cast_settings){ .servers = self.broker, .match = match, .me = self.me, .game = &duel_game,
-                                                         .opening = &field, .session = &session, .rate = 60 }, &why);
+    faz_cast *cast = faz_cast_open(
+        &(faz_cast_settings){
+            .servers = self.broker, .match = match, .me = self.me, .game = &duel_game, .opening = &field, .session = &session, .rate = 60 },
+        &why);
     if (cast == NULL)
         return fail(why);
     uint32_t frames = play(cast, &field);
@@ -105,8 +106,7 @@ int main(int count, char **words) {
     int at = read_options(words, options);
     long players = 0;
     stops_begin();
-    if (at == 0 || self.speed < 1 || count != at + (self.is_create ? 0 : 2)
-        || (!self.is_create && !read_number(words[at + 1], &players))) {
+    if (at == 0 || self.speed < 1 || count != at + (self.is_create ? 0 : 2) || (!self.is_create && !read_number(words[at + 1], &players))) {
         fputs(usage, stderr);
         return 2;
     }

@@ -20,8 +20,9 @@ static void use_colour(uint32_t number) {
 static void draw_ship(const duel_ship *ship, bool is_own) {
     const int32_t *to = duel_directions[ship->heading];
     int x = ship->x / UNIT, y = ship->y / UNIT, dx = (int)to[0], dy = (int)to[1], tx = x - dx * 3 / 4, ty = y - dy * 3 / 4;
-    SDL_Point points[] = { { x + dx, y + dy }, { tx - dy / 2, ty + dx / 2 }, { x - dx / 4, y - dy / 4 },
-                           { tx + dy / 2, ty - dx / 2 }, { x + dx, y + dy } };
+    SDL_Point points[] = {
+        { x + dx, y + dy }, { tx - dy / 2, ty + dx / 2 }, { x - dx / 4, y - dy / 4 }, { tx + dy / 2, ty - dx / 2 }, { x + dx, y + dy }
+    };
     SDL_RenderDrawLines(renderer, points, (int)SDL_arraysize(points));
     if (is_own)
         SDL_RenderFillRect(renderer, &(SDL_Rect){ x - 1, y - 1, 3, 3 });

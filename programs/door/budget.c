@@ -9,11 +9,12 @@
 
 /* How many times the tries of an address a network has. */
 static const int64_t times[NETWORK_KINDS] = {
-    [NETWORK_UNKNOWN] = 1, [NETWORK_4_32] = 1, [NETWORK_4_24] = 16, [NETWORK_6_64] = 1, [NETWORK_6_48] = 16, [NETWORK_6_32] = 256};
+    [NETWORK_UNKNOWN] = 1, [NETWORK_4_32] = 1, [NETWORK_4_24] = 16, [NETWORK_6_64] = 1, [NETWORK_6_48] = 16, [NETWORK_6_32] = 256
+};
 
 static void add(networks *self, network_kind kind, const uint8_t *bytes, size_t length) {
     network *to = &self->of[self->count++];
-    *to = (network){.kind = kind};
+    *to = (network){ .kind = kind };
     for (size_t at = 0; at < length; at++)
         to->prefix = to->prefix << 8 | bytes[at];
 }
@@ -44,7 +45,7 @@ void budget_begin(budget *self, long tries) {
 }
 
 static network_use *set_of(budget *self, const network *of) {
-    uint8_t bytes[sizeof of->prefix + 1] = {(uint8_t)of->kind}, digest[crypto_shorthash_BYTES];
+    uint8_t bytes[sizeof of->prefix + 1] = { (uint8_t)of->kind }, digest[crypto_shorthash_BYTES];
     uint64_t hash;
     memcpy(bytes + 1, &of->prefix, sizeof of->prefix);
     crypto_shorthash(digest, bytes, sizeof bytes, self->key);
@@ -67,7 +68,7 @@ static network_use *place_for(budget *self, const network *of) {
     for (int way = 1; way < BUDGET_WAYS; way++)
         if (set[way].whole_at < nearest->whole_at)
             nearest = &set[way];
-    *nearest = (network_use){.of = *of};
+    *nearest = (network_use){ .of = *of };
     return nearest;
 }
 

@@ -53,7 +53,7 @@ static struct {
     uint32_t refused;                            /* asks, since that was said */
     int64_t said_at;
     bool has_warned;
-} self = {.broker = "nats://127.0.0.1:4222", .hours = 8, .tries = 20};
+} self = { .broker = "nats://127.0.0.1:4222", .hours = 8, .tries = 20 };
 
 static budget budget_of_asks, budget_of_refusals;
 
@@ -63,9 +63,7 @@ static int64_t now_nanos(void) {
     return (int64_t)time.tv_sec * 1000000000 + time.tv_nsec;
 }
 
-static int64_t now(void) {
-    return now_nanos() / 1000000000;
-}
+static int64_t now(void) { return now_nanos() / 1000000000; }
 
 /* ---- who asks */
 
@@ -114,9 +112,7 @@ static int read_plate(const char *text) {
     return number;
 }
 
-static bool is_taken(int number) {
-    return self.plate[number].until > now();
-}
+static bool is_taken(int number) { return self.plate[number].until > now(); }
 
 /* The plate that a host has already, or may have again; -1: none. */
 static int plate_of(const door_request *asked) {
@@ -160,7 +156,7 @@ static door_status join(const door_request *asked, door_answer *answer) {
 /* ---- relays */
 
 static void hash_of(const network *of, uint8_t part, uint8_t out[crypto_generichash_BYTES_MIN]) {
-    uint64_t text[] = {(uint64_t)of->kind, of->prefix, part};
+    uint64_t text[] = { (uint64_t)of->kind, of->prefix, part };
     crypto_generichash(out, crypto_generichash_BYTES_MIN, (const uint8_t *)text, sizeof text, self.id_key, sizeof self.id_key);
 }
 
@@ -205,7 +201,7 @@ static void put_servers(door_answer *answer, const networks *from_whom) {
     static faz_lobby_settings stun;
     static lobby_words words;
     if (self.stun != NULL && stun.stun == NULL) {
-        words = (lobby_words){.broker = self.broker, .stun = self.stun};
+        words = (lobby_words){ .broker = self.broker, .stun = self.stun };
         faz_lobby_words_read(&words, &stun);
     }
     const faz_lobby_settings *from = self.stun != NULL ? &stun : &self.servers[0];
@@ -232,7 +228,7 @@ static door_status status_of(const door_request *asked, bool keeps, const networ
 /* A network that goes on asking isn't answered any more: to seal an answer takes much longer than to count. */
 static void answer(natsConnection *broker, natsMsg *message) {
     door_request asked;
-    door_answer answer = {0};
+    door_answer answer = { 0 };
     uint8_t out[DOOR_MESSAGE];
     char address[HOST];
     networks from;
@@ -345,11 +341,11 @@ static bool can_read(const char *name) {
 }
 
 static const char *read_servers(void) {
-    const char *const texts[2] = {self.relay, self.second};
-    lobby_words stun = {.broker = self.broker, .stun = self.stun};
-    faz_lobby_settings settings = {0};
+    const char *const texts[2] = { self.relay, self.second };
+    lobby_words stun = { .broker = self.broker, .stun = self.stun };
+    faz_lobby_settings settings = { 0 };
     for (int at = 0; at < 2; at++) {
-        self.words[at] = (lobby_words){.broker = self.broker, .stun = texts[at]};
+        self.words[at] = (lobby_words){ .broker = self.broker, .stun = texts[at] };
         if (faz_lobby_words_read(&self.words[at], &self.servers[at]) != NULL)
             return "a relay has no ADDRESS:PORT";
     }
@@ -357,11 +353,11 @@ static const char *read_servers(void) {
 }
 
 int main(int count, char **words) {
-    const option options[] = {
-        {"--broker", NULL, &self.broker, NULL}, {"--trusted", NULL, &self.trusted, NULL}, {"--stun", NULL, &self.stun, NULL},
-        {"--relay", NULL, &self.relay, NULL},   {"--second", NULL, &self.second, NULL},   {"--secret", NULL, &self.secret_file, NULL},
-        {"--hours", &self.hours, NULL, NULL},   {"--tries", &self.tries, NULL, NULL},     {"--creds", NULL, &self.creds, NULL},
-        {NULL, NULL, NULL, NULL}};
+    const option options[] = { { "--broker", NULL, &self.broker, NULL }, { "--trusted", NULL, &self.trusted, NULL },
+                               { "--stun", NULL, &self.stun, NULL },     { "--relay", NULL, &self.relay, NULL },
+                               { "--second", NULL, &self.second, NULL }, { "--secret", NULL, &self.secret_file, NULL },
+                               { "--hours", &self.hours, NULL, NULL },   { "--tries", &self.tries, NULL, NULL },
+                               { "--creds", NULL, &self.creds, NULL },   { NULL, NULL, NULL, NULL } };
     if (is_help(words, usage))
         return 0;
     if (read_options(words, options) != count || self.hours < 1 || self.hours > 8760 || self.tries < 1 || self.tries > BUDGET_MOST)

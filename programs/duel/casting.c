@@ -15,8 +15,13 @@ static bool has_begun;         /* it is known from which frame on */
 bool casting_open(const casting *settings, const duel *opening) {
     const char *why;
     fazgrond_settings session = fazgrond_settings_for((uint32_t)settings->players);
-    faz_cast_settings made = { .servers = settings->broker, .match = settings->match, .me = settings->me, .game = &duel_game,
-                               .opening = opening, .session = &session, .rate = (uint32_t)settings->rate,
+    faz_cast_settings made = { .servers = settings->broker,
+                               .match = settings->match,
+                               .me = settings->me,
+                               .game = &duel_game,
+                               .opening = opening,
+                               .session = &session,
+                               .rate = (uint32_t)settings->rate,
                                .limit = (uint32_t)settings->frames };
     if (settings->match == NULL)
         return true;
@@ -67,8 +72,8 @@ bool casting_close(const char *reason) {
         return true;
     faz_cast_end(cast, reason);
     bool has_all = faz_cast_close(cast, PATIENCE, &state);
-    fprintf(stderr, "published %u of %u frames, %u lost; %u messages sent again, %u disputed\n", state.stored, state.rows,
-            state.lost, state.again, state.disputed);
+    fprintf(stderr, "published %u of %u frames, %u lost; %u messages sent again, %u disputed\n", state.stored, state.rows, state.lost,
+            state.again, state.disputed);
     if (!has_all)
         fprintf(stderr, "duel: the broker doesn't have all: %s\n", state.why != NULL ? state.why : "it is too slow");
     cast = NULL;

@@ -6,8 +6,7 @@
 
 enum { HEADINGS = 8, MOST_SPEED = 512, SHOT_SPEED = 32, SHOT_LIFE = 60, COOL = 8, REACH = 2048, MOST_HITS = 65535 };
 
-const int32_t duel_directions[8][2] = { { 16, 0 },  { 11, 11 },   { 0, 16 },  { -11, 11 },
-                                        { -16, 0 }, { -11, -11 }, { 0, -16 }, { 11, -11 } };
+const int32_t duel_directions[8][2] = { { 16, 0 }, { 11, 11 }, { 0, 16 }, { -11, 11 }, { -16, 0 }, { -11, -11 }, { 0, -16 }, { 11, -11 } };
 
 bool duel_open(duel *field, uint32_t ships) {
     static const duel_ship places[DUEL_SHIPS] = {
@@ -107,8 +106,8 @@ bool duel_is_state(const duel *field, uint32_t ships) {
     }
     for (uint32_t at = 0; is_one && at < field->bullets; at++) {
         const duel_bullet *shot = &field->bullet[at];
-        is_one = is_on_field(shot->x, shot->y, shot->vx, shot->vy, MOST_SPEED + 16 * SHOT_SPEED) && shot->owner >= 1
-            && shot->owner <= ships && shot->life >= 1 && shot->life <= SHOT_LIFE;
+        is_one = is_on_field(shot->x, shot->y, shot->vx, shot->vy, MOST_SPEED + 16 * SHOT_SPEED) && shot->owner >= 1 && shot->owner <= ships
+            && shot->life >= 1 && shot->life <= SHOT_LIFE;
     }
     return is_one;
 }
@@ -125,9 +124,8 @@ void duel_text(const duel *field, char *out, size_t room) {
     size_t length = 0;
     for (uint32_t at = 0; at < field->ships && length < room; at++) {
         const duel_ship *ship = &field->ship[at];
-        length += (size_t)snprintf(out + length, room - length, "%d,%d,%d,%d,%u,%u,%u ", (int)ship->x, (int)ship->y,
-                                   (int)ship->vx, (int)ship->vy, (unsigned)ship->heading, (unsigned)ship->cool,
-                                   (unsigned)ship->hits);
+        length += (size_t)snprintf(out + length, room - length, "%d,%d,%d,%d,%u,%u,%u ", (int)ship->x, (int)ship->y, (int)ship->vx,
+                                   (int)ship->vy, (unsigned)ship->heading, (unsigned)ship->cool, (unsigned)ship->hits);
     }
     if (length < room)
         snprintf(out + length, room - length, "b%u", (unsigned)field->bullets);

@@ -9,6 +9,7 @@ static inline void duel_game_step(void *state, const fazgrond_row *row) { duel_s
 static inline uint64_t duel_game_digest(const void *state) { return duel_checksum(state); }
 static inline bool duel_game_is_state(const void *state, uint32_t players) { return duel_is_state(state, players); }
 
-static const faz_game duel_game = { .name = "duel", .size = sizeof(duel), .step = duel_game_step,
-                                    .digest = duel_game_digest, .is_state = duel_game_is_state };
+static const faz_game duel_game = {
+    .name = "duel", .size = sizeof(duel), .step = duel_game_step, .digest = duel_game_digest, .is_state = duel_game_is_state
+};
 #endif

@@ -42,10 +42,18 @@ static const char usage[] =
     "  --door        the broker has a door: codes are short, who joins has to be let in, and relays are the door's\n"
     "  --begin-with N    with --host and --rejoin: the match begins once N are there, and who comes later has a ship too\n";
 
-enum { TURN = 16667, PAST_LAST = 32, LINES = 12, WIDE = 78 /* signs of a line */, MOST_BEHIND = 6, CATCH_UP = 8,
-       TIMEOUT = FAZGROND_SILENT_AFTER, TIMEOUT_ONLINE = 10000,
-       LATE = 60000 /* milliseconds for which who was never heard is waited for once its time is over */,
-       ENDING = 90 /* turns in which the others can find that, too */ };
+enum {
+    TURN = 16667,
+    PAST_LAST = 32,
+    LINES = 12,
+    WIDE = 78 /* signs of a line */,
+    MOST_BEHIND = 6,
+    CATCH_UP = 8,
+    TIMEOUT = FAZGROND_SILENT_AFTER,
+    TIMEOUT_ONLINE = 10000,
+    LATE = 60000 /* milliseconds for which who was never heard is waited for once its time is over */,
+    ENDING = 90 /* turns in which the others can find that, too */
+};
 
 /* What is told of a player: `number` counts down the seconds until `until`, if that isn't 0. */
 typedef struct telling {
@@ -67,11 +75,11 @@ static struct {
     bool has_parted;         /* there was a desync, or another match is meant, .. */
     int ending;              /* .. and it is over after so many turns */
     bool is_heard[DUEL_SHIPS + 1], has_strangers;
-    uint64_t over_at;        /* then it is over, as this player is missing; 0: none is */
+    uint64_t over_at; /* then it is over, as this player is missing; 0: none is */
     int missing;
-    int again, all_again;    /* frames that were played again: in this turn, and in all */
+    int again, all_again; /* frames that were played again: in this turn, and in all */
     duel_bot bots[DUEL_SHIPS];
-    char at_last[512]; /* the state at the frame of --frames */
+    char at_last[512];            /* the state at the frame of --frames */
     telling told[DUEL_SHIPS + 1]; /* of each player, and before them of the host that is watched */
     /* What the command line says. */
     long frames, lag, loss, junk, speed, delay, timeout, sync_frames, bot, match, watch, helpers;
@@ -201,9 +209,10 @@ static void look_at_missing(void) {
     if (self.over_at == 0 || self.has_parted || micros() < self.over_at)
         return;
     end(self.has_strangers ? "player %d isn't there; datagrams came of another version, game, number of players or --match"
-        : self.is_heard[self.missing] || self.online.players > 0
+            : self.is_heard[self.missing] || self.online.players > 0
             ? "player %d isn't there. If it plays a match that this program was in before, that takes nobody back without --rejoin"
-            : "player %d hasn't come", self.missing);
+            : "player %d hasn't come",
+        self.missing);
 }
 
 /* It plays no more, but goes on for a while, so that the others see it too. */
@@ -419,7 +428,8 @@ static void linger(void) {
 }
 
 static void play_turn(void) {
-    for (int frames = 0; frames < CATCH_UP && !self.has_parted && turn() && is_behind(); frames++) {}
+    for (int frames = 0; frames < CATCH_UP && !self.has_parted && turn() && is_behind(); frames++) {
+    }
     casting_turn(self.session, field_of);
     count_down();
     look_at_missing();
@@ -465,19 +475,32 @@ static int fail(const char *why) {
 }
 
 static const option options[] = {
-    { "--bot", &self.bot, NULL, NULL },         { "--frames", &self.frames, NULL, NULL },
-    { "--lag", &self.lag, NULL, NULL },         { "--loss", &self.loss, NULL, NULL },
-    { "--junk", &self.junk, NULL, NULL },       { "--speed", &self.speed, NULL, NULL },
-    { "--delay", &self.delay, NULL, NULL },     { "--match", &self.match, NULL, NULL },
-    { "--timeout", &self.timeout, NULL, NULL }, { "--synctest", &self.sync_frames, NULL, NULL },
-    { "--watch", &self.watch, NULL, NULL },     { "--helpers", &self.helpers, NULL, NULL },
-    { "--cast", NULL, &self.cast.match, NULL }, { "--broker", NULL, &self.cast.broker, NULL },
-    { "--headless", NULL, NULL, &self.is_headless }, { "--rejoin", NULL, NULL, &self.can_rejoin },
-    { "--host", &self.online.host, NULL, NULL },     { "--join", NULL, &self.online.code, NULL },
-    { "--trusted", NULL, &self.online.trusted, NULL }, { "--stun", NULL, &self.online.stun, NULL },
-    { "--relay", NULL, &self.online.relay, NULL },   { "--tcp-relay", NULL, &self.online.tcp_relay, NULL },
-    { "--name", NULL, &self.online.name, NULL },     { "--relay-only", NULL, NULL, &self.online.relay_only },
-    { "--ask", NULL, NULL, &self.online.asks },      { "--door", NULL, NULL, &self.online.by_door },
+    { "--bot", &self.bot, NULL, NULL },
+    { "--frames", &self.frames, NULL, NULL },
+    { "--lag", &self.lag, NULL, NULL },
+    { "--loss", &self.loss, NULL, NULL },
+    { "--junk", &self.junk, NULL, NULL },
+    { "--speed", &self.speed, NULL, NULL },
+    { "--delay", &self.delay, NULL, NULL },
+    { "--match", &self.match, NULL, NULL },
+    { "--timeout", &self.timeout, NULL, NULL },
+    { "--synctest", &self.sync_frames, NULL, NULL },
+    { "--watch", &self.watch, NULL, NULL },
+    { "--helpers", &self.helpers, NULL, NULL },
+    { "--cast", NULL, &self.cast.match, NULL },
+    { "--broker", NULL, &self.cast.broker, NULL },
+    { "--headless", NULL, NULL, &self.is_headless },
+    { "--rejoin", NULL, NULL, &self.can_rejoin },
+    { "--host", &self.online.host, NULL, NULL },
+    { "--join", NULL, &self.online.code, NULL },
+    { "--trusted", NULL, &self.online.trusted, NULL },
+    { "--stun", NULL, &self.online.stun, NULL },
+    { "--relay", NULL, &self.online.relay, NULL },
+    { "--tcp-relay", NULL, &self.online.tcp_relay, NULL },
+    { "--name", NULL, &self.online.name, NULL },
+    { "--relay-only", NULL, NULL, &self.online.relay_only },
+    { "--ask", NULL, NULL, &self.online.asks },
+    { "--door", NULL, NULL, &self.online.by_door },
     { "--begin-with", &self.online.begin_with, NULL, NULL },
     { NULL, NULL, NULL, NULL },
 };
@@ -534,15 +557,16 @@ static bool add_met(void) {
 }
 
 static GGPOErrorCode start(unsigned short port, const char *host_word) {
-    GGPOSessionCallbacks calls = { .save_game_state = on_save, .load_game_state = on_load, .free_buffer = on_free,
-                                   .advance_frame = on_advance, .on_event = on_event };
+    GGPOSessionCallbacks calls = {
+        .save_game_state = on_save, .load_game_state = on_load, .free_buffer = on_free, .advance_frame = on_advance, .on_event = on_event
+    };
     char name[] = "duel";
     GGPOPlayer host = { .size = sizeof host };
     if (self.watch > 0 && !read_address(host_word, &host))
         return GGPO_ERRORCODE_INVALID_REQUEST;
     if (self.watch > 0)
-        return ggpo_start_spectating(&self.session, &calls, name, self.players, sizeof(uint32_t), port,
-                                     host.u.remote.ip_address, host.u.remote.port);
+        return ggpo_start_spectating(&self.session, &calls, name, self.players, sizeof(uint32_t), port, host.u.remote.ip_address,
+                                     host.u.remote.port);
     if (self.sync_frames > 0)
         return ggpo_start_synctest(&self.session, &calls, name, self.players, sizeof(uint32_t), (int)self.sync_frames);
     return ggpo_start_session(&self.session, &calls, name, self.players, sizeof(uint32_t), port);
@@ -620,7 +644,7 @@ int main(int count, char **words) {
     stops_begin();
     if (at > 0 && is_online)
         return words[at] != NULL || self.online.host > DUEL_SHIPS ? fail("two to four players were expected, and no addresses")
-                                                                 : run_online();
+                                                                  : run_online();
     if (at == 0 || !read_number(words[at], &port) || port > 65535)
         return fail("the options or the port can't be read");
     self.players = (int)self.watch;

@@ -54,15 +54,23 @@ static void take_code(void) {
 
 static bool open(const online *wish) {
     faz_lobby_settings settings = { .digest = DIGEST, .players = (uint32_t)wish->host, .any_sender = true };
-    self.words = (lobby_words){ .broker = wish->broker, .trusted = wish->trusted, .stun = wish->stun, .relay = wish->relay,
-                                .tcp_relay = wish->tcp_relay, .name = wish->name, .relay_only = wish->relay_only,
-                                .asks = wish->asks, .by_door = wish->by_door, .lasts = wish->lasts,
+    self.words = (lobby_words){ .broker = wish->broker,
+                                .trusted = wish->trusted,
+                                .stun = wish->stun,
+                                .relay = wish->relay,
+                                .tcp_relay = wish->tcp_relay,
+                                .name = wish->name,
+                                .relay_only = wish->relay_only,
+                                .asks = wish->asks,
+                                .by_door = wish->by_door,
+                                .lasts = wish->lasts,
                                 .begin_with = wish->begin_with };
     self.needs_code = wish->code != NULL && strcmp(wish->code, "-") == 0;
     const char *why = faz_lobby_words_read(&self.words, &settings);
     if (why == NULL)
         self.lobby = wish->host > 0 ? faz_lobby_host(&settings, &why)
-            : self.needs_code ? faz_lobby_open(&settings, &why) : faz_lobby_join(&settings, wish->code, &why);
+            : self.needs_code       ? faz_lobby_open(&settings, &why)
+                                    : faz_lobby_join(&settings, wish->code, &why);
     if (self.lobby == NULL)
         fprintf(stderr, "duel: %s\n", why);
     return self.lobby != NULL;
@@ -89,9 +97,7 @@ bool online_meet(online *wish) {
     return true;
 }
 
-const char *online_question(void) {
-    return self.asking != 0 ? self.question : "";
-}
+const char *online_question(void) { return self.asking != 0 ? self.question : ""; }
 
 void online_answer(bool yes) {
     if (self.asking != 0)
@@ -146,8 +152,7 @@ bool online_seal(GGPOSession *session) {
     for (uint32_t at = 0; at < self.match.players; at++) {
         uint32_t machine = self.match.owners[at];
         if (machine != self.match.me)
-            is_sealed = is_sealed
-                && GGPO_SUCCEEDED(fazggpo_set_number(session, (GGPOPlayerHandle)at + 1, self.match.numbers[machine]));
+            is_sealed = is_sealed && GGPO_SUCCEEDED(fazggpo_set_number(session, (GGPOPlayerHandle)at + 1, self.match.numbers[machine]));
     }
     return is_sealed;
 }

@@ -10,7 +10,7 @@
 
 /* What the command line says. */
 typedef struct online {
-    long host;                /* so many play, and this machine hosts; 0: it joins */
+    long host; /* so many play, and this machine hosts; 0: it joins */
     const char *code, *broker, *trusted, *stun, *relay, *tcp_relay, *name;
     bool relay_only, asks, by_door, lasts;
     long begin_with;          /* as in lobby_words */

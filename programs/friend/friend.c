@@ -40,10 +40,11 @@ enum { FIRST = 2 /* the last number of the host's address */, AT_ONCE = 256, RES
 
 /* The other machine, as the game here has it. */
 typedef struct friend {
-    int socket; /* -1: there is none */
+    int socket;              /* -1: there is none */
     struct sockaddr_in game; /* where the game sent from last; at first its port */
     uint64_t went, came, too_long, unsent;
-} friend;
+}
+friend;
 
 static struct {
     faz_lobby *lobby;
@@ -70,7 +71,8 @@ static uint32_t millis(void) {
 /* ---- the game here */
 
 static struct sockaddr_in loopback(uint32_t last, long port) {
-    return (struct sockaddr_in){ .sin_family = AF_INET, .sin_port = htons((uint16_t)port),
+    return (struct sockaddr_in){ .sin_family = AF_INET,
+                                 .sin_port = htons((uint16_t)port),
                                  .sin_addr.s_addr = htonl(INADDR_LOOPBACK - 1 + last) };
 }
 
@@ -198,21 +200,28 @@ static void end(void) {
         const friend *it = &self.friends[machine];
         if (it->socket < 0)
             continue;
-        fprintf(stderr, "machine %" PRIu32 ": %" PRIu64 " datagrams went, of them %" PRIu64 " while there was no way; %" PRIu64 " came\n", machine,
-                it->went, it->unsent, it->came);
+        fprintf(stderr, "machine %" PRIu32 ": %" PRIu64 " datagrams went, of them %" PRIu64 " while there was no way; %" PRIu64 " came\n",
+                machine, it->went, it->unsent, it->came);
         close(it->socket);
     }
     faz_lobby_close(self.lobby);
 }
 
 static const option options[] = {
-    { "--host", &self.host, NULL, NULL },              { "--join", NULL, &self.join, NULL },
-    { "--port", &self.port, NULL, NULL },              { "--friends", &self.friends_port, NULL, NULL },
-    { "--broker", NULL, &self.words.broker, NULL },    { "--trusted", NULL, &self.words.trusted, NULL },
-    { "--stun", NULL, &self.words.stun, NULL },        { "--relay", NULL, &self.words.relay, NULL },
-    { "--tcp-relay", NULL, &self.words.tcp_relay, NULL }, { "--name", NULL, &self.words.name, NULL },
-    { "--relay-only", NULL, NULL, &self.words.relay_only }, { "--ask", NULL, NULL, &self.words.asks },
-    { "--door", NULL, NULL, &self.words.by_door },     { "--rejoin", NULL, NULL, &self.words.lasts },
+    { "--host", &self.host, NULL, NULL },
+    { "--join", NULL, &self.join, NULL },
+    { "--port", &self.port, NULL, NULL },
+    { "--friends", &self.friends_port, NULL, NULL },
+    { "--broker", NULL, &self.words.broker, NULL },
+    { "--trusted", NULL, &self.words.trusted, NULL },
+    { "--stun", NULL, &self.words.stun, NULL },
+    { "--relay", NULL, &self.words.relay, NULL },
+    { "--tcp-relay", NULL, &self.words.tcp_relay, NULL },
+    { "--name", NULL, &self.words.name, NULL },
+    { "--relay-only", NULL, NULL, &self.words.relay_only },
+    { "--ask", NULL, NULL, &self.words.asks },
+    { "--door", NULL, NULL, &self.words.by_door },
+    { "--rejoin", NULL, NULL, &self.words.lasts },
     { "--begin-with", &self.words.begin_with, NULL, NULL },
     { NULL, NULL, NULL, NULL },
 };

@@ -23,18 +23,18 @@ static const char usage[] =
 enum { CLAIMS = 2048, TEXT = 4096, PATH = 4096 };
 
 /* Of accounts. Nobody is let in without a key of its own, and no other broker comes in as a leaf of this one. */
-#define LIMITS                                                                                                                           \
-    "\"limits\":{\"subs\":-1,\"data\":-1,\"payload\":-1,\"imports\":-1,\"exports\":-1,\"wildcards\":true,\"conn\":-1,\"leaf\":0,"         \
+#define LIMITS \
+    "\"limits\":{\"subs\":-1,\"data\":-1,\"payload\":-1,\"imports\":-1,\"exports\":-1,\"wildcards\":true,\"conn\":-1,\"leaf\":0," \
     "\"disallow_bearer\":true}"
 
 /* What all may who have the pass. In `.door` of its inbox a machine hears what only the door can say. */
-#define RIGHTS                                                                                                                           \
-    "\"pub\":{\"allow\":[\"faz.in.*\",\"faz.meet.*\",\"faz.door\"]},"                                                                     \
-    "\"sub\":{\"allow\":[\"faz.in.{{subject()}}\",\"faz.in.{{subject()}}.door\",\"faz.meet.*\"]},"                                        \
+#define RIGHTS \
+    "\"pub\":{\"allow\":[\"faz.in.*\",\"faz.meet.*\",\"faz.door\"]}," \
+    "\"sub\":{\"allow\":[\"faz.in.{{subject()}}\",\"faz.in.{{subject()}}.door\",\"faz.meet.*\"]}," \
     "\"subs\":8,\"data\":-1,\"payload\":8192,\"allowed_connection_types\":[\"STANDARD\",\"WEBSOCKET\"]"
 
 /* What the door may: to hear what it is asked, and to answer once, within ten seconds. */
-#define DOOR_RIGHTS                                                                                                                      \
+#define DOOR_RIGHTS \
     "\"pub\":{},\"sub\":{\"allow\":[\"faz.door\"]},\"resp\":{\"max\":1,\"ttl\":10000000000},\"subs\":8,\"data\":-1,\"payload\":8192"
 
 static struct {
@@ -116,14 +116,12 @@ typedef struct file {
     void (*write)(FILE *to);
 } file;
 
-static const file FILES[] = {{"broker.jwt.conf", write_broker}, {"door.creds", write_creds}, {"pass", write_pass}};
+static const file FILES[] = { { "broker.jwt.conf", write_broker }, { "door.creds", write_creds }, { "pass", write_pass } };
 
 enum { FILE_COUNT = sizeof FILES / sizeof *FILES };
 
 /* False: the path is too long. */
-static bool path_of(const file *one, char out[PATH]) {
-    return snprintf(out, PATH, "%s/%s", self.folder, one->name) < PATH;
-}
+static bool path_of(const file *one, char out[PATH]) { return snprintf(out, PATH, "%s/%s", self.folder, one->name) < PATH; }
 
 /* Null, or what is in the way. */
 static const char *in_the_way(char path[PATH]) {

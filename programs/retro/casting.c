@@ -23,8 +23,8 @@ typedef struct image {
 static struct {
     faz_game game;
     char name[FAZ_NAME];
-    core *core;       /* on which states are stepped */
-    core own;         /* that of who publishes */
+    core *core; /* on which states are stepped */
+    core own;   /* that of who publishes */
     core_state state;
     image *shown;
     bool reloads;
@@ -65,8 +65,11 @@ static bool is_image(const void *state, uint32_t players) {
 static bool set_up(const facts *facts, const core_state *opening) {
     snprintf(self.name, sizeof self.name, "retro-%016" PRIx64, facts->core ^ facts->rom ^ facts->options);
     self.reloads = facts->reloads;
-    self.game = (faz_game){ .name = self.name, .size = sizeof(image) + (opening->size / SPARE + 2) * SPARE, .step = step,
-                            .digest = digest_of_image, .is_state = is_image };
+    self.game = (faz_game){ .name = self.name,
+                            .size = sizeof(image) + (opening->size / SPARE + 2) * SPARE,
+                            .step = step,
+                            .digest = digest_of_image,
+                            .is_state = is_image };
     self.shown = calloc(1, self.game.size);
     return self.shown != NULL;
 }
@@ -82,10 +85,14 @@ static bool open_from(const match *of, const core_state *opening, uint64_t diges
         return true;
     snprintf(me, sizeof me, "player%" PRIu32 "-%08" PRIx32, all->me, (uint32_t)net_draw());
     self.core = &self.own;
-    if (set_up(of->facts, &of->opening) && core_open(self.core, of->from)
-        && write_image(self.shown, opening, digest)) {
-        faz_cast_settings made = { .servers = of->wish->broker, .match = of->wish->cast, .me = me, .game = &self.game,
-                                   .opening = self.shown, .session = &session, .limit = of->wish->frames,
+    if (set_up(of->facts, &of->opening) && core_open(self.core, of->from) && write_image(self.shown, opening, digest)) {
+        faz_cast_settings made = { .servers = of->wish->broker,
+                                   .match = of->wish->cast,
+                                   .me = me,
+                                   .game = &self.game,
+                                   .opening = self.shown,
+                                   .session = &session,
+                                   .limit = of->wish->frames,
                                    .rate = (uint32_t)(of->main->core.av.timing.fps + 0.5) };
         self.cast = faz_cast_open(&made, &why);
     }
@@ -158,8 +165,9 @@ static void turn(faz_view *view, const wish *wish, faz_view_state *now) {
 
 outcome casting_watch(runner *on, const wish *wish, const facts *facts, const core_state *opening) {
     const char *why = "there is no memory";
-    faz_view_settings settings = { .servers = wish->broker, .match = wish->cast, .game = &self.game, .from = wish->from,
-                                   .cushion = CUSHION };
+    faz_view_settings settings = {
+        .servers = wish->broker, .match = wish->cast, .game = &self.game, .from = wish->from, .cushion = CUSHION
+    };
     faz_view_state now = { .desync = FAZ_LATEST };
     faz_view *view = set_up(facts, opening) ? faz_view_open(&settings, &why) : NULL;
     int64_t due = clock_micros(), length = (int64_t)(1e6 / on->core.av.timing.fps / wish->speed);

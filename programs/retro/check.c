@@ -19,11 +19,11 @@ enum { BACK = 8, TRIES = 240, BYTES_OF = 120, PLACES = 6, PATIENCE = 900 /* seco
 typedef struct course {
     const recipe *from;
     const core_state *opening; /* one for all: two instances needn't open alike */
-    uint32_t frames, back; /* back: 0, or after how many frames it goes back to play them again */
-    bool saves, reloads;   /* each frame's state is saved; and loaded then */
-    bool goes_wrong;       /* other words at first */
-    uint64_t *digests;     /* of each frame: of RAM and picture */
-    uint32_t differ;       /* frames that came out otherwise the second time */
+    uint32_t frames, back;     /* back: 0, or after how many frames it goes back to play them again */
+    bool saves, reloads;       /* each frame's state is saved; and loaded then */
+    bool goes_wrong;           /* other words at first */
+    uint64_t *digests;         /* of each frame: of RAM and picture */
+    uint32_t differ;           /* frames that came out otherwise the second time */
     bool is_done;
     char why[160];
 } course;
@@ -104,16 +104,25 @@ static uint32_t differing(const course *one, const course *other) {
 
 /* The courses that have to come out alike, if states are safe as they are, or if each is loaded as it is saved. */
 static bool is_safe(const course *like, bool reloads, char *why, size_t room) {
-    static const char *const names[] = { "straight on", "each frame twice", "eight frames twice", "eight wrong frames, and back",
-                                         "the same, beside another thread", "and there" };
+    static const char *const names[] = {
+        "straight on", "each frame twice", "eight frames twice", "eight wrong frames, and back", "the same, beside another thread",
+        "and there"
+    };
     enum { COURSES = 6 };
     uint32_t frames = like->frames;
     course all[COURSES];
     pthread_t other;
     bool is_good = true;
     for (int at = 0; at < COURSES; at++)
-        all[at] = (course){ .from = like->from, .opening = like->opening, .frames = frames, .saves = true, .reloads = reloads,
-                            .goes_wrong = at > 2, .back = at == 0 ? 0 : at == 1 ? 1 : BACK,
+        all[at] = (course){ .from = like->from,
+                            .opening = like->opening,
+                            .frames = frames,
+                            .saves = true,
+                            .reloads = reloads,
+                            .goes_wrong = at > 2,
+                            .back = at == 0 ? 0
+                                : at == 1   ? 1
+                                            : BACK,
                             .digests = calloc(frames, sizeof(uint64_t)) };
     for (int at = 0; at < COURSES - 1 && is_good; at++) {
         bool is_beside = at == COURSES - 2 && pthread_create(&other, NULL, play_course, &all[at + 1]) == 0;
@@ -328,7 +337,9 @@ bool verdict_read(const recipe *from, verdict *out) {
     while (file != NULL && !is_there && fgets(line, sizeof line, file) != NULL) {
         memset(out, 0, sizeof *out);
         is_there = sscanf(line, "%llx %d %lf %lf %lf %u %u %n", &key, &kind, &out->step, &out->save, &out->load, &out->threshold,
-                          &out->helpers, &core_at) == 7 && key == wanted;
+                          &out->helpers, &core_at)
+                == 7
+            && key == wanted;
         if (is_there) {
             out->safety = (safety)kind;
             snprintf(out->core, sizeof out->core, "%.*s", (int)strcspn(line + core_at, "\n"), line + core_at);

@@ -184,6 +184,7 @@ static int16_t pad(const core *self, unsigned port, unsigned device, unsigned bu
 }
 
 /* The interface hands its callbacks no pointer of the frontend's, so each instance has a set of functions. */
+/* clang-format off */
 #define SET(n) \
     static bool answer_##n(unsigned c, void *d) { return answer(cores[n], c, d); } \
     static void picture_##n(const void *d, unsigned w, unsigned h, size_t p) { hear_picture(cores[n], d, w, h, p); } \
@@ -194,7 +195,8 @@ static int16_t pad(const core *self, unsigned port, unsigned device, unsigned bu
 SET(0) SET(1) SET(2) SET(3) SET(4) SET(5) SET(6) SET(7) SET(8) SET(9) SET(10) SET(11)
 #define ALL(name) { name##_0, name##_1, name##_2, name##_3, name##_4, name##_5, name##_6, name##_7, name##_8, name##_9, \
                     name##_10, name##_11 }
-static const retro_environment_t answers[CORES] = ALL(answer);
+    /* clang-format on */
+    static const retro_environment_t answers[CORES] = ALL(answer);
 static const retro_video_refresh_t pictures[CORES] = ALL(picture);
 static const retro_audio_sample_t samples[CORES] = ALL(sample);
 static const retro_audio_sample_batch_t batches[CORES] = ALL(batch);
@@ -214,10 +216,27 @@ static bool find_calls(core *self) {
     void *found;
 #define TAKE(name) \
     (found = library_find(&self->library, "retro_" #name), memcpy(&self->name, &found, sizeof found), has_all &= found != NULL)
-    TAKE(init); TAKE(deinit); TAKE(run); TAKE(reset); TAKE(unload_game); TAKE(get_system_info); TAKE(get_system_av_info);
-    TAKE(load_game); TAKE(serialize_size); TAKE(serialize); TAKE(unserialize); TAKE(set_controller_port_device);
-    TAKE(get_memory_data); TAKE(get_memory_size); TAKE(api_version); TAKE(set_environment); TAKE(set_video_refresh);
-    TAKE(set_audio_sample); TAKE(set_audio_sample_batch); TAKE(set_input_poll); TAKE(set_input_state);
+    TAKE(init);
+    TAKE(deinit);
+    TAKE(run);
+    TAKE(reset);
+    TAKE(unload_game);
+    TAKE(get_system_info);
+    TAKE(get_system_av_info);
+    TAKE(load_game);
+    TAKE(serialize_size);
+    TAKE(serialize);
+    TAKE(unserialize);
+    TAKE(set_controller_port_device);
+    TAKE(get_memory_data);
+    TAKE(get_memory_size);
+    TAKE(api_version);
+    TAKE(set_environment);
+    TAKE(set_video_refresh);
+    TAKE(set_audio_sample);
+    TAKE(set_audio_sample_batch);
+    TAKE(set_input_poll);
+    TAKE(set_input_state);
     return has_all && self->api_version() == RETRO_API_VERSION ? true : refuse(self, "it is no libretro core of version 1");
 }
 

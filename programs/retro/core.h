@@ -30,18 +30,20 @@ typedef struct core_state {
 } core_state;
 
 typedef struct core {
-    int set;      /* which set of callbacks it has */
+    int set; /* which set of callbacks it has */
     library library;
     const recipe *from;
     bool is_begun, has_game;
     bool is_shown;        /* picture and sound of each frame are kept */
     bool digests_picture; /* it takes a digest of each picture: it is set if the core doesn't tell where its RAM is */
-    char why[160];           /* why it couldn't be opened */
+    char why[160];        /* why it couldn't be opened */
     struct retro_system_info info;
     struct retro_system_av_info av;
     enum retro_pixel_format format;
     const struct retro_controller_info *ports; /* what can be plugged in; null if the core doesn't say */
-    struct { char *key, *value; } options[OPTIONS];
+    struct {
+        char *key, *value;
+    } options[OPTIONS];
     int option_count;
     uint16_t pads[PORTS];
     uint32_t *picture; /* XRGB, `width` by `height` */

@@ -68,35 +68,66 @@ static struct {
     bool by_code;       /* machines meet by one, and send over the lines of a lobby */
     char *option_words; /* of the command line, or the host's */
     const char *options, *ports, *save, *key, *join, *watch, *play, *view;
-    long from_frame, host, machines, viewers, seats, delays[SEATS], threshold, helpers, hold, port, timeout, frames, bot, lag, jitter, loss, speed;
+    long from_frame, host, machines, viewers, seats, delays[SEATS], threshold, helpers, hold, port, timeout, frames, bot, lag, jitter, loss,
+        speed;
     bool is_verbose, is_unchecked, goes_again, lasts;
-} self = { .machines = 2, .seats = 1, .delays = { 1, 1 }, .helpers = -1, .hold = -1, .timeout = FAZGROND_SILENT_AFTER, .speed = 1, .from_frame = -1,
+} self = { .machines = 2,
+           .seats = 1,
+           .delays = { 1, 1 },
+           .helpers = -1,
+           .hold = -1,
+           .timeout = FAZGROND_SILENT_AFTER,
+           .speed = 1,
+           .from_frame = -1,
            .wish = { .broker = "nats://127.0.0.1:4222" } };
 
 static const option options[] = {
-    { "--host", &self.host, NULL, NULL },           { "--join", NULL, &self.join, NULL },
-    { "--watch", NULL, &self.watch, NULL },         { "--play", NULL, &self.play, NULL },
-    { "--machines", &self.machines, NULL, NULL },   { "--seats", &self.seats, NULL, NULL },
-    { "--key", NULL, &self.key, NULL },             { "--delay", &self.delays[0], NULL, NULL },
-    { "--delay2", &self.delays[1], NULL, NULL },    { "--save-ram", NULL, &self.save, NULL },
-    { "--options", NULL, &self.options, NULL },     { "--record", NULL, &self.wish.replay, NULL },
-    { "--picture", NULL, &self.wish.picture, NULL }, { "--digests", NULL, &self.wish.digests, NULL },
-    { "--threshold", &self.threshold, NULL, NULL }, { "--helpers", &self.helpers, NULL, NULL },
-    { "--port", &self.port, NULL, NULL },           { "--timeout", &self.timeout, NULL, NULL },
-    { "--frames", &self.frames, NULL, NULL },       { "--bot", &self.bot, NULL, NULL },
-    { "--lag", &self.lag, NULL, NULL },             { "--jitter", &self.jitter, NULL, NULL },
-    { "--loss", &self.loss, NULL, NULL },           { "--speed", &self.speed, NULL, NULL },
-    { "--ports", NULL, &self.ports, NULL },         { "--cast", NULL, &self.wish.cast, NULL },
-    { "--view", NULL, &self.view, NULL },           { "--broker", NULL, &self.wish.broker, NULL },
-    { "--from", &self.from_frame, NULL, NULL },     { "--hold", &self.hold, NULL, NULL },
-    { "--figures", NULL, &self.wish.figures, NULL }, { "--viewers", &self.viewers, NULL, NULL },
-    { "--name", NULL, &self.online.name, NULL },    { "--stun", NULL, &self.online.stun, NULL },
-    { "--relay", NULL, &self.online.relay, NULL },  { "--tcp-relay", NULL, &self.online.tcp_relay, NULL },
-    { "--trusted", NULL, &self.online.trusted, NULL }, { "--relay-only", NULL, NULL, &self.online.relay_only },
-    { "--ask", NULL, NULL, &self.online.asks },      { "--door", NULL, NULL, &self.online.by_door },
-    { "--headless", NULL, NULL, &self.wish.is_headless }, { "--again", NULL, NULL, &self.goes_again },
-    { "--rejoin", NULL, NULL, &self.lasts },         { "--begin-with", &self.online.begin_with, NULL, NULL },
-    { "--unchecked", NULL, NULL, &self.is_unchecked }, { "--verbose", NULL, NULL, &self.is_verbose },
+    { "--host", &self.host, NULL, NULL },
+    { "--join", NULL, &self.join, NULL },
+    { "--watch", NULL, &self.watch, NULL },
+    { "--play", NULL, &self.play, NULL },
+    { "--machines", &self.machines, NULL, NULL },
+    { "--seats", &self.seats, NULL, NULL },
+    { "--key", NULL, &self.key, NULL },
+    { "--delay", &self.delays[0], NULL, NULL },
+    { "--delay2", &self.delays[1], NULL, NULL },
+    { "--save-ram", NULL, &self.save, NULL },
+    { "--options", NULL, &self.options, NULL },
+    { "--record", NULL, &self.wish.replay, NULL },
+    { "--picture", NULL, &self.wish.picture, NULL },
+    { "--digests", NULL, &self.wish.digests, NULL },
+    { "--threshold", &self.threshold, NULL, NULL },
+    { "--helpers", &self.helpers, NULL, NULL },
+    { "--port", &self.port, NULL, NULL },
+    { "--timeout", &self.timeout, NULL, NULL },
+    { "--frames", &self.frames, NULL, NULL },
+    { "--bot", &self.bot, NULL, NULL },
+    { "--lag", &self.lag, NULL, NULL },
+    { "--jitter", &self.jitter, NULL, NULL },
+    { "--loss", &self.loss, NULL, NULL },
+    { "--speed", &self.speed, NULL, NULL },
+    { "--ports", NULL, &self.ports, NULL },
+    { "--cast", NULL, &self.wish.cast, NULL },
+    { "--view", NULL, &self.view, NULL },
+    { "--broker", NULL, &self.wish.broker, NULL },
+    { "--from", &self.from_frame, NULL, NULL },
+    { "--hold", &self.hold, NULL, NULL },
+    { "--figures", NULL, &self.wish.figures, NULL },
+    { "--viewers", &self.viewers, NULL, NULL },
+    { "--name", NULL, &self.online.name, NULL },
+    { "--stun", NULL, &self.online.stun, NULL },
+    { "--relay", NULL, &self.online.relay, NULL },
+    { "--tcp-relay", NULL, &self.online.tcp_relay, NULL },
+    { "--trusted", NULL, &self.online.trusted, NULL },
+    { "--relay-only", NULL, NULL, &self.online.relay_only },
+    { "--ask", NULL, NULL, &self.online.asks },
+    { "--door", NULL, NULL, &self.online.by_door },
+    { "--headless", NULL, NULL, &self.wish.is_headless },
+    { "--again", NULL, NULL, &self.goes_again },
+    { "--rejoin", NULL, NULL, &self.lasts },
+    { "--begin-with", &self.online.begin_with, NULL, NULL },
+    { "--unchecked", NULL, NULL, &self.is_unchecked },
+    { "--verbose", NULL, NULL, &self.is_verbose },
     { NULL, NULL, NULL, NULL },
 };
 
@@ -132,8 +163,8 @@ static bool take_files(const char *library, const char *rom) {
         is_there = core_about(&one, &self.from);
         why = one.why;
         if (is_there)
-            is_there = rom_read(rom, one.info.block_extract ? NULL : one.info.valid_extensions, &self.from.rom,
-                                self.from.rom_name, sizeof self.from.rom_name, &why);
+            is_there = rom_read(rom, one.info.block_extract ? NULL : one.info.valid_extensions, &self.from.rom, self.from.rom_name,
+                                sizeof self.from.rom_name, &why);
         if (!is_there)
             fail(why);
         core_close(&one);
@@ -165,16 +196,18 @@ static bool take_verdict(void) {
 /* Why --rejoin can't be had with what else was said; null if it can. */
 static const char *no_rejoin(void) {
     return self.host == 0 && self.join == NULL && self.watch == NULL ? "--rejoin is said with --host, --join or --watch"
-        : self.join != NULL && self.port == 0 && !self.by_code ? "--rejoin needs --port N: the same when this machine comes back"
-        : self.hold > 0 ? "with --rejoin no word is held back"
-        : self.wish.picture != NULL ? "a match with --rejoin has no picture" : NULL;
+        : self.join != NULL && self.port == 0 && !self.by_code       ? "--rejoin needs --port N: the same when this machine comes back"
+        : self.hold > 0                                              ? "with --rejoin no word is held back"
+        : self.wish.picture != NULL                                  ? "a match with --rejoin has no picture"
+                                                                     : NULL;
 }
 
 /* Why what was said doesn't go with a code; null if it does. */
 static const char *no_code(void) {
-    return self.key != NULL ? "with a code there is no --key, as the code keeps others out"
+    return self.key != NULL                                ? "with a code there is no --key, as the code keeps others out"
         : self.machines + self.viewers > FAZGROND_MACHINES ? "by a code eight machines meet at most, those that watch among them"
-        : self.online.begin_with > 0 && self.viewers > 0 ? "--begin-with isn't said with --viewers" : NULL;
+        : self.online.begin_with > 0 && self.viewers > 0   ? "--begin-with isn't said with --viewers"
+                                                           : NULL;
 }
 
 /* Whether machines meet by a code. */
@@ -235,8 +268,10 @@ static bool open_core(core_state *opening) {
     self.facts = (facts){ .core = strong_digest_of(self.from.library.at, self.from.library.size),
                           .rom = strong_digest_of(self.from.rom.at, self.from.rom.size),
                           .save_ram = strong_digest_of(self.from.save_ram.at, self.from.save_ram.size),
-                          .options = strong_digest_of(options_text, strlen(options_text)), .opening = core_digest(one),
-                          .reloads = self.verdict.safety == SAFE_IF_RELOADED, .lasts = self.lasts };
+                          .options = strong_digest_of(options_text, strlen(options_text)),
+                          .opening = core_digest(one),
+                          .reloads = self.verdict.safety == SAFE_IF_RELOADED,
+                          .lasts = self.lasts };
     snprintf(self.facts.name, sizeof self.facts.name, "%.30s %.30s", one->info.library_name, one->info.library_version);
     return true;
 }
@@ -425,8 +460,13 @@ static bool wants_again(void) {
 }
 
 static int play(core_state *opening) {
-    match it = { .wish = &self.wish, .from = &self.from, .meeting = &self.meeting, .main = &self.main, .states = &self.states,
-                 .facts = &self.facts, .opening = *opening };
+    match it = { .wish = &self.wish,
+                 .from = &self.from,
+                 .meeting = &self.meeting,
+                 .main = &self.main,
+                 .states = &self.states,
+                 .facts = &self.facts,
+                 .opening = *opening };
     bool goes_on = meet(&it.opening);
     outcome came = is_stopped() ? ENDED : FAILED;
     while (goes_on) {
@@ -517,8 +557,7 @@ int main(int count, char **words) {
     take_devices(self.ports);
     if (at == 0 || count != at + is_check + 2 || self.seats < 1 || self.seats > SEATS || self.speed < 1 || self.hold > HOLDING_TURNS
         || self.machines < 2 || self.machines > FAZGROND_MACHINES
-        || is_check + (self.host > 0) + (self.join != NULL) + (self.watch != NULL) + (self.play != NULL)
-               + (self.view != NULL) != 1) {
+        || is_check + (self.host > 0) + (self.join != NULL) + (self.watch != NULL) + (self.play != NULL) + (self.view != NULL) != 1) {
         fputs(usage, stderr);
         return 2;
     }

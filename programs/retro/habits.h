@@ -8,9 +8,14 @@
 enum { HABIT_PARTS = 13, HABIT_AGES = 7, HABIT_TURNS = 6 };
 
 typedef struct habit {
-    uint32_t mask, held, age;                                /* what it is, since how many frames */
-    struct { float seen, turned; } tally[2][HABIT_AGES];     /* let go and held, by age: how often it was seen, and changed */
-    struct { uint32_t to; float weight; } turns[HABIT_TURNS]; /* what it changed to */
+    uint32_t mask, held, age; /* what it is, since how many frames */
+    struct {
+        float seen, turned;
+    } tally[2][HABIT_AGES]; /* let go and held, by age: how often it was seen, and changed */
+    struct {
+        uint32_t to;
+        float weight;
+    } turns[HABIT_TURNS]; /* what it changed to */
     int count;
 } habit;
 

@@ -177,7 +177,8 @@ static job *place_for(helpers *self, const guess *of) {
 static bool begin(helpers *self, fazgrond_session *session, job *one, int32_t code) {
     fazgrond_request none;
     one->count = code == FAZGROND_OK ? fazgrond_take_requests(session, one->requests, JOB_REQUESTS) : 0;
-    while (fazgrond_take_requests(session, &none, 1) > 0) {}
+    while (fazgrond_take_requests(session, &none, 1) > 0) {
+    }
     if (code != FAZGROND_OK)
         return false;
     one->turn = self->turn;
@@ -253,8 +254,7 @@ void helpers_guess(helpers *self, fazgrond_session *session, uint32_t far) {
         pthread_mutex_lock(&self->lock);
         job *one = place_for(self, of);
         pthread_mutex_unlock(&self->lock);
-        if (one == NULL || fazgrond_confirmed(session, (uint8_t)of->player, &known) != FAZGROND_OK
-            || of->frame - known >= JOB_WORDS)
+        if (one == NULL || fazgrond_confirmed(session, (uint8_t)of->player, &known) != FAZGROND_OK || of->frame - known >= JOB_WORDS)
             continue;
         for (uint32_t frame = known; frame < of->frame; frame++)
             words[frame - known] = self->habits[of->player - 1].held;

@@ -27,7 +27,7 @@ typedef struct helpers {
     job jobs[JOBS];
     job *queue[JOBS]; /* those that wait, the first one first */
     uint32_t queued;
-    job *certain; /* that of words that have come, until it is grafted or let go */
+    job *certain;             /* that of words that have come, until it is grafted or let go */
     bool is_over, has_failed; /* has_failed: a core refused a state */
     habits habits[FAZGROND_PLAYERS];
     uint32_t noted[FAZGROND_PLAYERS]; /* how many words of each player it has seen */

@@ -13,8 +13,10 @@
 
 enum {
     SPARE = 65536, /* so many bytes more than here a state may have */
-    SILENT = 500, TELL_EVERY = 1000, OVER_A_SEAM = 2000, /* milliseconds */
-    APART = 60 /* frames from a seam to one that this machine asks for: who watches has come over the first one by then */
+    SILENT = 500,
+    TELL_EVERY = 1000,
+    OVER_A_SEAM = 2000, /* milliseconds */
+    APART = 60          /* frames from a seam to one that this machine asks for: who watches has come over the first one by then */
 };
 
 static uint32_t place_at(const match *self, const address *from) {
@@ -105,11 +107,18 @@ int32_t lasting_open_peer(match *self, const fazgrond_match *match, const fazgro
         note_part(self, &it->epoch);
     }
     faz_hosting_close(&it->hosting);
-    it->hosting = (faz_hosting){ .session = &self->session, .peer = &self->peer, .me = match->me, .digest = all->digest,
-                                 .random = net_draw(), .send = send_by, .of = self };
+    it->hosting = (faz_hosting){ .session = &self->session,
+                                 .peer = &self->peer,
+                                 .me = match->me,
+                                 .digest = all->digest,
+                                 .random = net_draw(),
+                                 .send = send_by,
+                                 .of = self };
     for (uint32_t place = 0; place < all->machines; place++)
-        it->hosting.seat[place] = (faz_seat){ .is_taken = place != all->me, .number = line_number(self, all->me, place),
-                                              .ticket = fazgrond_ticket(match->comers, place), .players = players_of(all, place) };
+        it->hosting.seat[place] = (faz_seat){ .is_taken = place != all->me,
+                                              .number = line_number(self, all->me, place),
+                                              .ticket = fazgrond_ticket(match->comers, place),
+                                              .players = players_of(all, place) };
     for (uint32_t viewer = 0; viewer < self->open_lines; viewer++)
         lasting_seat_viewer(self, viewer);
     return fazgrond_peer_open_lasting(&self->peer, &self->session, match, &it->epoch);
@@ -145,8 +154,7 @@ void lasting_host(match *self) {
     self->lasting.is_at_seam = false;
     if (image != NULL)
         state_write(state, image);
-    match_must(self, image == NULL ? FAZGROND_NO_MEMORY
-                                   : faz_hosting_begin(&self->lasting.hosting, image, STATE_HEAD + state->size));
+    match_must(self, image == NULL ? FAZGROND_NO_MEMORY : faz_hosting_begin(&self->lasting.hosting, image, STATE_HEAD + state->size));
     free(image);
 }
 
@@ -278,8 +286,12 @@ static void begin_to_come(match *self) {
     lasting *it = &self->lasting;
     const agreement *all = &self->meeting->all;
     faz_comer_close(&it->comer);
-    it->comer = (faz_comer){ .players = players_of(all, all->me), .digest = all->digest, .random = net_draw(), .send = send_by,
-                             .of = self, .limit = (uint32_t)(STATE_HEAD + self->main->core.serialize_size() + SPARE) };
+    it->comer = (faz_comer){ .players = players_of(all, all->me),
+                             .digest = all->digest,
+                             .random = net_draw(),
+                             .send = send_by,
+                             .of = self,
+                             .limit = (uint32_t)(STATE_HEAD + self->main->core.serialize_size() + SPARE) };
     for (uint32_t place = 0; place < all->machines; place++) {
         it->comer.machines |= place != all->me ? 1u << place : 0;
         it->comer.numbers[place] = line_number(self, all->me, place);

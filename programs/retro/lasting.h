@@ -14,12 +14,12 @@ typedef struct match_part {
 } match_part;
 
 typedef struct lasting {
-    bool is_coming, is_lost;     /* this machine comes into the match; it hears nobody of it */
-    uint32_t base;               /* so many frames of the match came before this epoch */
-    uint32_t seen;               /* of so many frames of the match the trail has the settled rows */
+    bool is_coming, is_lost;                       /* this machine comes into the match; it hears nobody of it */
+    uint32_t base;                                 /* so many frames of the match came before this epoch */
+    uint32_t seen;                                 /* of so many frames of the match the trail has the settled rows */
     uint32_t heard_at[FAZGROND_MACHINES], told_at; /* when each machine was heard, and those told that weren't */
     trail trail;
-    core_state opening;          /* the state at the first frame of the trail, if this machine came in there, and its digest */
+    core_state opening; /* the state at the first frame of the trail, if this machine came in there, and its digest */
     uint64_t opening_digest;
     match_part *parts;
     size_t part_count;

@@ -13,9 +13,15 @@
 #include <stdlib.h>
 #include <string.h>
 
-enum { MOST_LATE = 20 /* turns that are made up for */, FLOOD = 256, MARK_EVERY = 600, SURELY = 180, BYES = 3,
-       SLICE = 1000 /* microseconds between two looks at a helper */,
-       ENDING = 90 /* turns in which a desync is still told to the others */ };
+enum {
+    MOST_LATE = 20 /* turns that are made up for */,
+    FLOOD = 256,
+    MARK_EVERY = 600,
+    SURELY = 180,
+    BYES = 3,
+    SLICE = 1000 /* microseconds between two looks at a helper */,
+    ENDING = 90 /* turns in which a desync is still told to the others */
+};
 
 bool wish_goes_on(const wish *wish) { return !wish->is_stopped() && (wish->is_headless || window_goes_on()); }
 
@@ -160,8 +166,7 @@ static bool open_match(match *self) {
     self->session = (fazgrond_session)FAZGROND_CLOSED;
     self->peer = (fazgrond_peer)FAZGROND_CLOSED;
     self->gone = self->meeting->all.vacant;
-    self->holding = (holding){ .session = &self->session, .peer = &self->peer, .helpers = &self->helpers,
-                               .turns = self->wish->hold };
+    self->holding = (holding){ .session = &self->session, .peer = &self->peer, .helpers = &self->helpers, .turns = self->wish->hold };
     for (uint32_t at = 0; at < FAZGROND_MACHINES; at++)
         self->place_of[at] = at;
     if (!runner_open(self->main, &self->opening)
@@ -184,8 +189,11 @@ static void open_lines(match *self) {
             lasting_seat_viewer(self, self->open_lines);
             continue;
         }
-        fazgrond_line_settings settings = { .draw = net_draw(), .digest = it->all.digest, .host = it->all.me,
-                                            .machines = it->all.machines, .silent_after = self->wish->silent_after };
+        fazgrond_line_settings settings = { .draw = net_draw(),
+                                            .digest = it->all.digest,
+                                            .host = it->all.me,
+                                            .machines = it->all.machines,
+                                            .silent_after = self->wish->silent_after };
         settings.number = strong_digest_of((uint64_t[2]){ it->key, it->viewer[self->open_lines].line_draw }, 16) | 1;
         memcpy(settings.owners, it->all.owners, sizeof settings.owners);
         self->lines[self->open_lines] = (fazgrond_line)FAZGROND_CLOSED;
@@ -243,9 +251,7 @@ void match_obey(match *self) {
     self->jumps |= self->main->loads > loads;
 }
 
-static uint32_t word_of(match *self, uint32_t seat) {
-    return self->wish->bot != 0 ? self->next_words[seat] : window_word((int)seat);
-}
+static uint32_t word_of(match *self, uint32_t seat) { return self->wish->bot != 0 ? self->next_words[seat] : window_word((int)seat); }
 
 /* Whether all frames that are to be played are there. */
 static bool has_all(const match *self) { return self->wish->frames > 0 && self->frame >= self->wish->frames; }
@@ -412,8 +418,9 @@ static void react(match *self, const fazgrond_event *event) {
         break;
     case FAZGROND_CUT_OFF: count_down(self, "too few of the others are heard", 0, event->disconnect_in); break;
     case FAZGROND_RESTARTED:
-        match_say(self, self->wish->lasts ? "machine %" PRIu32 " was begun anew"
-                                          : "machine %" PRIu32 " was begun anew, and can't come back", machine);
+        match_say(self,
+                  self->wish->lasts ? "machine %" PRIu32 " was begun anew" : "machine %" PRIu32 " was begun anew, and can't come back",
+                  machine);
         break;
     case FAZGROND_DISCONNECTED:
         if ((self->far >> (event->player - 1) & 1) != 0)
@@ -475,8 +482,8 @@ static void show(match *self) {
     for (uint32_t at = 0; at < FAZGROND_MACHINES; at++) {
         fazgrond_stats it;
         if (fazgrond_peer_stats(&self->peer, (uint8_t)at, &it) == FAZGROND_OK && it.is_measured != 0)
-            snprintf(text[count++], ROOM, "machine %u: ping %u ms, ahead %d, lost %u", self->place_of[at], it.round_trip,
-                     -it.frames_behind, it.lost);
+            snprintf(text[count++], ROOM, "machine %u: ping %u ms, ahead %d, lost %u", self->place_of[at], it.round_trip, -it.frames_behind,
+                     it.lost);
     }
     snprintf(text[count++], ROOM, "frame %u, again %u, waits %u", self->frame, self->all_again, self->waits);
     if (self->wish->hold > 0)
@@ -584,10 +591,12 @@ static void tell(const match *self) {
     const figures *it = &self->figures;
     fprintf(stderr, "played %u frames, and %u again, %u at most in a turn; waited %u turns; %" PRIu64 " bytes sent\n", self->frame,
             self->all_again, self->deepest, self->waits, self->meeting->net->sent_bytes);
-    fprintf(stderr, "a turn took %.2f ms of a processor at most in 99 of 100, %.2f in 999 of 1000, %.2f once; by the clock %.2f, %.2f, "
-            "%.2f, and %u of %u turns over %.1f\n", spread_at(&it->processor, 990) / 1e3, spread_at(&it->processor, 999) / 1e3,
-            it->processor.worst / 1e3, spread_at(&it->clock, 990) / 1e3, spread_at(&it->clock, 999) / 1e3, it->clock.worst / 1e3,
-            it->slow, it->clock.count, FIGURES_SLOW / 1e3);
+    fprintf(stderr,
+            "a turn took %.2f ms of a processor at most in 99 of 100, %.2f in 999 of 1000, %.2f once; by the clock %.2f, %.2f, "
+            "%.2f, and %u of %u turns over %.1f\n",
+            spread_at(&it->processor, 990) / 1e3, spread_at(&it->processor, 999) / 1e3, it->processor.worst / 1e3,
+            spread_at(&it->clock, 990) / 1e3, spread_at(&it->clock, 999) / 1e3, it->clock.worst / 1e3, it->slow, it->clock.count,
+            FIGURES_SLOW / 1e3);
     if (self->wish->hold > 0)
         fprintf(stderr, "held back %u corrections: shown %.2f turns later, %u of them by two at most; %u before a helper was done\n",
                 self->holding.held, holding_later(&self->holding), holding_soon(&self->holding), self->holding.forced);
@@ -605,8 +614,8 @@ static bool write_figures(const match *self) {
     if (file == NULL)
         return fprintf(stderr, "%s can't be written\n", self->wish->figures), false;
     figures_write(&self->figures, file);
-    fprintf(file, "frames %u\nagain %u\ndeepest %u\nwaits %u\nunseen %u\nbytes %" PRIu64 "\n", self->frame, self->all_again,
-            self->deepest, self->waits, self->unseen, self->meeting->net->sent_bytes);
+    fprintf(file, "frames %u\nagain %u\ndeepest %u\nwaits %u\nunseen %u\nbytes %" PRIu64 "\n", self->frame, self->all_again, self->deepest,
+            self->waits, self->unseen, self->meeting->net->sent_bytes);
     fprintf(file, "held %u\nlater %.2f\nsoon %u\nforced %u\nastray %u\nstood %u\n", it->held, holding_later(it), holding_soon(it),
             it->forced, self->astray, self->stood);
     return fclose(file) == 0;
@@ -681,8 +690,7 @@ bool match_go_back(match *self) {
         if (!match_row(self, frame, &row))
             return false;
         core_step(&self->main->core, row.words, row.count);
-        if (!core_save(&self->main->core, &self->opening)
-            || (self->states->reloads && !core_load(&self->main->core, &self->opening)))
+        if (!core_save(&self->main->core, &self->opening) || (self->states->reloads && !core_load(&self->main->core, &self->opening)))
             return false;
     }
     self->facts->opening = core_digest(&self->main->core);
@@ -698,7 +706,12 @@ void match_close(match *self) {
         fazgrond_line_close(&self->lines[at]);
     for (int at = 0; at < MARKS; at++)
         free(self->marks[at].state.at);
-    match kept = { .wish = self->wish, .from = self->from, .meeting = self->meeting, .main = self->main, .states = self->states,
-                   .facts = self->facts, .opening = self->opening };
+    match kept = { .wish = self->wish,
+                   .from = self->from,
+                   .meeting = self->meeting,
+                   .main = self->main,
+                   .states = self->states,
+                   .facts = self->facts,
+                   .opening = self->opening };
     *self = kept;
 }

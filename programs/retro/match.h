@@ -16,8 +16,8 @@ typedef struct wish {
     uint32_t frames;        /* it ends once so many are settled; 0: as it is closed */
     uint32_t delays[SEATS]; /* of the players here */
     uint32_t helpers, silent_after;
-    uint32_t hold;          /* a word that came late waits for so many turns at most, while a helper plays its frames; 0: none does */
-    uint64_t bot;           /* the players here play by themselves, by this seed; 0: they don't */
+    uint32_t hold; /* a word that came late waits for so many turns at most, while a helper plays its frames; 0: none does */
+    uint64_t bot;  /* the players here play by themselves, by this seed; 0: they don't */
     const char *digests, *replay, *picture, *figures; /* files that are written; null: not */
     const char *cast, *broker; /* the name under which the match is published or watched on a broker; null: it isn't */
     uint32_t from, speed;      /* who watches there begins at this frame; the clock runs so many times as fast */
@@ -64,10 +64,13 @@ typedef struct match {
     uint32_t desync, ending; /* the frame at which another machine had another state, if has_desync; turns until it ends */
     bool has_desync;
     uint32_t gone; /* bits of the agreement's machines */
-    struct { uint32_t frame; core_state state; } marks[MARKS]; /* settled states, far apart, the newest first */
-    bool is_missing;          /* a machine isn't there: the match is over at `missing_until`, unless it has begun */
+    struct {
+        uint32_t frame;
+        core_state state;
+    } marks[MARKS];  /* settled states, far apart, the newest first */
+    bool is_missing; /* a machine isn't there: the match is over at `missing_until`, unless it has begun */
     uint32_t missing_until;
-    char counted[TOLD];       /* what is told with the seconds until `counted_until`; empty: nothing */
+    char counted[TOLD]; /* what is told with the seconds until `counted_until`; empty: nothing */
     uint32_t counted_until, counted_seconds;
     char told[TOLD];
 } match;

@@ -135,20 +135,23 @@ static const char *difference(const meeting *self, const facts *theirs, char *te
         snprintf(text, room, "another core: the host has %.50s, and this one %.50s", mine->name, theirs->name);
         return text;
     }
-    return theirs->rom != mine->rom ? "another ROM than the host's"
-        : theirs->reloads != mine->reloads ? "one of the two machines hasn't checked the core: faz-retro check"
-        : theirs->lasts != mine->lasts ? mine->lasts ? "the host plays with --rejoin, and this machine without"
-                                                     : "the host plays without --rejoin, and this machine with it"
-        : self->has_key ? NULL /* it is given the rest */
-        : theirs->options != mine->options ? "other options of the core than the host's; with a key they would be sent"
+    return theirs->rom != mine->rom          ? "another ROM than the host's"
+        : theirs->reloads != mine->reloads   ? "one of the two machines hasn't checked the core: faz-retro check"
+        : theirs->lasts != mine->lasts       ? mine->lasts ? "the host plays with --rejoin, and this machine without"
+                                                           : "the host plays without --rejoin, and this machine with it"
+        : self->has_key                      ? NULL /* it is given the rest */
+        : theirs->options != mine->options   ? "other options of the core than the host's; with a key they would be sent"
         : theirs->save_ram != mine->save_ram ? "another save RAM than the host's; with a key it would be sent"
-        : theirs->opening != mine->opening ? "the game doesn't begin as it does at the host; with a key that would be sent" : NULL;
+        : theirs->opening != mine->opening   ? "the game doesn't begin as it does at the host; with a key that would be sent"
+                                             : NULL;
 }
 
 /* The first of what the host has otherwise; GIVEN if all is alike. */
 static int first_other(const facts *one, const facts *other) {
-    return one->save_ram != other->save_ram ? SAVE_RAM : one->options != other->options ? CORE_OPTIONS
-        : one->opening != other->opening ? OPENING : GIVEN;
+    return one->save_ram != other->save_ram ? SAVE_RAM
+        : one->options != other->options    ? CORE_OPTIONS
+        : one->opening != other->opening    ? OPENING
+                                            : GIVEN;
 }
 
 static void send_refusal(const meeting *self, const guest *to, const char *why) {
@@ -307,8 +310,9 @@ static void give(meeting *self, const guest *to, const uint8_t *bytes, size_t le
         self->given = 0;
     }
     for (int which = 0; which < GIVEN; which++)
-        for (size_t place = 0; self->given < MOST_GIVEN && fazgrond_giver_reply(&self->givers[which], number, HOST, bytes, length,
-             place, out, sizeof out, &size) == FAZGROND_OK; place++, self->given++)
+        for (size_t place = 0; self->given < MOST_GIVEN
+             && fazgrond_giver_reply(&self->givers[which], number, HOST, bytes, length, place, out, sizeof out, &size) == FAZGROND_OK;
+             place++, self->given++)
             net_send(self->net, &to->at, out, size);
 }
 
@@ -388,8 +392,7 @@ static void take_table(meeting *self, const address *from, cursor *heard) {
         all->machine[at] = take_address(heard);
     }
     all->machine[0] = *from;
-    self->is_agreed = !heard->is_short && all->machines >= 2 && all->machines <= FAZGROND_MACHINES
-        && all->players <= FAZGROND_PLAYERS;
+    self->is_agreed = !heard->is_short && all->machines >= 2 && all->machines <= FAZGROND_MACHINES && all->players <= FAZGROND_PLAYERS;
     all->digest = digest_of_all(self);
 }
 
@@ -489,12 +492,14 @@ static void begin_to_take(meeting *self) {
     self->taking = which;
     self->is_taking = true;
     int32_t code = self->names[which].length == 0 ? FAZGROND_OK /* none, and so all of it */
-        : fazgrond_taker_open(&self->taker, &self->names[which], self->limits[which]);
+                                                  : fazgrond_taker_open(&self->taker, &self->names[which], self->limits[which]);
     if (code == FAZGROND_OK && self->names[which].length > 0)
         code = fazgrond_taker_take_of(&self->taker, HOST);
-    snprintf(text, sizeof text, code == FAZGROND_TOO_LONG ? "the host's %s has more bytes than this game's"
-             : code == FAZGROND_NO_MEMORY ? "there is no memory for the host's %s"
-             : "the host's %s was taken over, and is another one here", names[which]);
+    snprintf(text, sizeof text,
+             code == FAZGROND_TOO_LONG        ? "the host's %s has more bytes than this game's"
+                 : code == FAZGROND_NO_MEMORY ? "there is no memory for the host's %s"
+                                              : "the host's %s was taken over, and is another one here",
+             names[which]);
     if (code != FAZGROND_OK || self->has_taken[which])
         meeting_refuse(self, text);
     else
@@ -532,7 +537,8 @@ static void send_asks(meeting *self) {
     cursor made;
     for (int count = 0; count < ASKS; count++)
         if (fazgrond_taker_send(&self->taker, number_of(self, self->nonce), GUEST, FAZGROND_ASKED, made.bytes, sizeof made.bytes,
-                                &made.length) == FAZGROND_OK)
+                                &made.length)
+            == FAZGROND_OK)
             net_send(self->net, &self->host, made.bytes, made.length);
 }
 

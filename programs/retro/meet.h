@@ -24,8 +24,8 @@ typedef struct facts {
 
 typedef struct guest {
     address at;
-    uint64_t nonce, line_draw; /* that it drew for this meeting; of a viewer's line */
-    uint32_t players;          /* how many sit there; 0: it watches */
+    uint64_t nonce, line_draw;        /* that it drew for this meeting; of a viewer's line */
+    uint32_t players;                 /* how many sit there; 0: it watches */
     uint8_t delays[FAZGROND_PLAYERS]; /* by how many frames the words of each of them count later */
 } guest;
 
@@ -33,10 +33,10 @@ typedef struct guest {
 typedef struct agreement {
     uint32_t me, machines, players, threshold, owners[FAZGROND_PLAYERS], delays[FAZGROND_PLAYERS];
     uint64_t numbers[FAZGROND_MACHINES], line, digest; /* line: of a viewer's line */
-    uint64_t draw; /* of a match that lasts: all its numbers are made of it */
-    bool runs;     /* such a match has begun already, and this machine comes into it */
+    uint64_t draw;                                     /* of a match that lasts: all its numbers are made of it */
+    bool runs;                                         /* such a match has begun already, and this machine comes into it */
     uint32_t vacant; /* a bit for each machine that isn't there as the match begins, and whose player is nobody's until it comes */
-    uint32_t base; /* how many of its frames came before its epoch */
+    uint32_t base;   /* how many of its frames came before its epoch */
     address machine[FAZGROND_MACHINES];
 } agreement;
 
@@ -48,16 +48,16 @@ typedef struct meeting {
     net *net;
     facts facts;
     uint64_t key, nonce;
-    bool has_key; /* the players have told one */
-    uint32_t players, wanted; /* how many sit here; of the host: how many machines there are to be */
+    bool has_key;                     /* the players have told one */
+    uint32_t players, wanted;         /* how many sit here; of the host: how many machines there are to be */
     uint8_t delays[FAZGROND_PLAYERS]; /* of those who sit here */
     bool is_host, is_agreed, is_refused;
-    bool is_running; /* in a match that lasts: who is begun anew can come in */
-    bool is_closed;  /* in one that doesn't: it can't */
-    uint64_t over;   /* the draw of a match into which nobody comes any more */
-    uint64_t strange; /* that of one that was heard of, and isn't this machine's */
-    bool is_out;     /* another machine has said that this one is gone for it, .. */
-    uint32_t out_of, out_from; /* .. which one, and the base of its epoch */
+    bool is_running;                 /* in a match that lasts: who is begun anew can come in */
+    bool is_closed;                  /* in one that doesn't: it can't */
+    uint64_t over;                   /* the draw of a match into which nobody comes any more */
+    uint64_t strange;                /* that of one that was heard of, and isn't this machine's */
+    bool is_out;                     /* another machine has said that this one is gone for it, .. */
+    uint32_t out_of, out_from;       /* .. which one, and the base of its epoch */
     bool has_parted;                 /* in the match: another machine has said that it found a desync .. */
     uint32_t parted_with, parted_at; /* .. which one, and at which frame */
     char why[160];
@@ -68,11 +68,11 @@ typedef struct meeting {
     uint32_t vacants;
     uint64_t draws[FAZGROND_MACHINES][FAZGROND_MACHINES];
     agreement all;
-    fazgrond_giver givers[GIVEN]; /* of the host; closed where it has none */
-    guest learner[LEARNERS];      /* who takes of them, the oldest place first to be taken anew */
+    fazgrond_giver givers[GIVEN];       /* of the host; closed where it has none */
+    guest learner[LEARNERS];            /* who takes of them, the oldest place first to be taken anew */
     uint32_t learners, given, given_at; /* how many there were; pieces that were given of late */
-    uint32_t limits[GIVEN];       /* of a guest: the most bytes that it takes of each .. */
-    facts theirs;                 /* .. what the host has .. */
+    uint32_t limits[GIVEN];             /* of a guest: the most bytes that it takes of each .. */
+    facts theirs;                       /* .. what the host has .. */
     fazgrond_state_name names[GIVEN];
     fazgrond_taker taker;
     int taking; /* .. what it takes now, if anything, and which it has taken */

@@ -105,8 +105,7 @@ void net_send(net *self, const address *to, const uint8_t *bytes, size_t length)
         return;
     }
     uint32_t by = self->lag + draw_below(self, 2 * self->jitter + 1);
-    *made = (late){ .next = self->late, .due = net_now(self) + (by > self->jitter ? by - self->jitter : 0), .to = *to,
-                    .length = length };
+    *made = (late){ .next = self->late, .due = net_now(self) + (by > self->jitter ? by - self->jitter : 0), .to = *to, .length = length };
     memcpy(made->bytes, bytes, length);
     self->late = made;
 }

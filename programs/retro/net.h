@@ -26,7 +26,7 @@ typedef struct net_wire {
 typedef struct net {
     socket_t socket;
     bool is_open;
-    const net_wire *wire; /* null: there is the socket */
+    const net_wire *wire;       /* null: there is the socket */
     uint32_t lag, jitter, loss; /* milliseconds, by how many more or less, and how many of a hundred are lost */
     uint32_t speed;             /* the clock runs so many times as fast */
     uint64_t random;

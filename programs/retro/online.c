@@ -16,7 +16,7 @@ enum { TEXT = FAZ_LOBBY_TEXT_ROOM + 64 };
 static struct {
     faz_lobby *lobby;
     lobby_words words;
-    uint32_t asking; /* who waits for an answer of this player's; 0: nobody */
+    uint32_t asking;             /* who waits for an answer of this player's; 0: nobody */
     char code[TEXT], text[TEXT]; /* what the host was told, and what was said last */
     char question[TEXT];
 } self;
@@ -43,9 +43,16 @@ static void tell_events(void) {
 
 bool online_open(const online_wish *wish) {
     faz_lobby_settings settings = { .digest = DIGEST, .players = wish->machines, .any_sender = true };
-    self.words = (lobby_words){ .broker = wish->broker, .trusted = wish->trusted, .stun = wish->stun, .relay = wish->relay,
-                                .tcp_relay = wish->tcp_relay, .name = wish->name, .relay_only = wish->relay_only,
-                                .asks = wish->asks, .by_door = wish->by_door, .lasts = wish->lasts,
+    self.words = (lobby_words){ .broker = wish->broker,
+                                .trusted = wish->trusted,
+                                .stun = wish->stun,
+                                .relay = wish->relay,
+                                .tcp_relay = wish->tcp_relay,
+                                .name = wish->name,
+                                .relay_only = wish->relay_only,
+                                .asks = wish->asks,
+                                .by_door = wish->by_door,
+                                .lasts = wish->lasts,
                                 .begin_with = wish->begin_with };
     const char *why = faz_lobby_words_read(&self.words, &settings);
     if (why == NULL)

@@ -10,9 +10,7 @@ typedef struct hand {
     uint32_t held[3];
 } hand;
 
-static inline hand hand_of(uint64_t seed, uint32_t player) {
-    return (hand){ .seed = seed * 256 + player };
-}
+static inline hand hand_of(uint64_t seed, uint32_t player) { return (hand){ .seed = seed * 256 + player }; }
 
 /* A number below another one: SplitMix64. */
 static inline uint32_t hand_draw(hand *self, uint32_t below) {

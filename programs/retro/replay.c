@@ -242,9 +242,7 @@ void replay_free(replay *self) {
     free(self->parts);
 }
 
-static bool keep(playback *self) {
-    return core_save(self->core, &self->state) && (!self->reloads || core_load(self->core, &self->state));
-}
+static bool keep(playback *self) { return core_save(self->core, &self->state) && (!self->reloads || core_load(self->core, &self->state)); }
 
 bool playback_begin(playback *self, const core_state *opening) { return core_load(self->core, opening) && keep(self); }
 

@@ -6,8 +6,10 @@
 uint64_t path_from(uint32_t frame) { return 2 * (uint64_t)frame + 1; }
 
 uint64_t path_after(uint64_t path, const fazgrond_row *row) {
-    struct { uint64_t path; uint32_t words[FAZGROND_PLAYERS], gone, count; } all = { .path = path, .gone = row->gone,
-                                                                                     .count = row->count };
+    struct {
+        uint64_t path;
+        uint32_t words[FAZGROND_PLAYERS], gone, count;
+    } all = { .path = path, .gone = row->gone, .count = row->count };
     memcpy(all.words, row->words, row->count * sizeof *row->words);
     return digest_of(&all, sizeof all) | 1;
 }

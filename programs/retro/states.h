@@ -27,7 +27,9 @@ typedef struct trail {
 typedef struct notes {
     bool is_on;
     pthread_mutex_t lock;
-    struct { uint64_t path, digest; } *at;
+    struct {
+        uint64_t path, digest;
+    } * at;
     size_t room, count;
     uint32_t differing; /* states of the same path that came out otherwise */
 } notes;
@@ -65,8 +67,8 @@ bool runner_follow(runner *self, const fazgrond_row *row);
 
 /* The row of a frame; null if it isn't on the trail. */
 const fazgrond_row *trail_row(const trail *self, uint32_t frame);
-/* The row of a frame that is on the trail is this one for good. The core may have stepped another one there, and gone on from a state behind
- * it that a helper made. */
+/* The row of a frame that is on the trail is this one for good. The core may have stepped another one there, and gone on from a state
+ * behind it that a helper made. */
 void trail_settle(trail *self, uint32_t frame, const fazgrond_row *row);
 void trail_free(trail *self);
 

@@ -191,8 +191,13 @@ static outcome follow_match(meeting *meeting, runner *on, const core_state *open
     following self = { .meeting = meeting, .heard_at = net_now(meeting->net) };
     int64_t due = clock_micros(), length = (int64_t)(1e6 / on->core.av.timing.fps / meeting->net->speed);
     bool is_silent = false, is_over = false;
-    self.comer = (faz_comer){ .machines = 1, .numbers = { meeting->all.line }, .digest = meeting->all.digest, .random = net_draw(),
-                              .limit = (uint32_t)(STATE_HEAD + on->core.serialize_size() + SPARE), .send = send_to_host, .of = &self };
+    self.comer = (faz_comer){ .machines = 1,
+                              .numbers = { meeting->all.line },
+                              .digest = meeting->all.digest,
+                              .random = net_draw(),
+                              .limit = (uint32_t)(STATE_HEAD + on->core.serialize_size() + SPARE),
+                              .send = send_to_host,
+                              .of = &self };
     faz_comer_begin(&self.comer);
     self.goes_on = begin(&self.shown, on, opening, on->states->reloads, wish->digests);
     while (self.goes_on && !is_silent && !is_over && wish_goes_on(wish) && (wish->frames == 0 || self.shown.frame < wish->frames)) {
@@ -212,15 +217,17 @@ outcome watch_match(meeting *meeting, runner *on, const core_state *opening, con
     if (wish->lasts)
         return follow_match(meeting, on, opening, wish);
     watching self = { .meeting = meeting };
-    fazgrond_line_settings settings = { .number = meeting->all.line, .draw = net_draw(), .digest = meeting->all.digest,
-                                        .machines = meeting->all.machines, .silent_after = wish->silent_after };
+    fazgrond_line_settings settings = { .number = meeting->all.line,
+                                        .draw = net_draw(),
+                                        .digest = meeting->all.digest,
+                                        .machines = meeting->all.machines,
+                                        .silent_after = wish->silent_after };
     int64_t due = clock_micros(), length = (int64_t)(1e6 / on->core.av.timing.fps / meeting->net->speed);
     memcpy(settings.owners, meeting->all.owners, sizeof settings.owners);
     self.goes_on = begin(&self.shown, on, opening, on->states->reloads, wish->digests)
         && fazgrond_viewer_open(&self.viewer, &settings) == FAZGROND_OK;
     while (self.goes_on && self.seen.is_silent == 0 && wish_goes_on(wish)
-           && !(self.seen.has_ended != 0 && self.shown.frame >= self.seen.rows)
-           && (wish->frames == 0 || self.shown.frame < wish->frames)) {
+           && !(self.seen.has_ended != 0 && self.shown.frame >= self.seen.rows) && (wish->frames == 0 || self.shown.frame < wish->frames)) {
         turn(&self, wish);
         due += length;
         net_rest(meeting->net, due - clock_micros());

@@ -13,10 +13,10 @@ enum {
     LINE = 14,
     BELOW = 4 * LINE, /* room for lines */
     RATE = 48000,
-    SOFT = 128,       /* samples over which a jump is made smooth */
-    MOST = 8192,      /* samples of a frame */
+    SOFT = 128,  /* samples over which a jump is made smooth */
+    MOST = 8192, /* samples of a frame */
     FULL = 128,
-    STEP = 16         /* of the volume */
+    STEP = 16 /* of the volume */
 };
 
 static struct {
@@ -46,8 +46,7 @@ static bool open_sound(const core *one) {
 
 bool window_open(const core *one, int place) {
     int width = SCALE * (int)one->av.geometry.base_width, height = SCALE * (int)one->av.geometry.base_height + BELOW;
-    if (SDL_Init(SDL_INIT_VIDEO | SDL_INIT_AUDIO | SDL_INIT_GAMECONTROLLER) != 0
-        && SDL_Init(SDL_INIT_VIDEO | SDL_INIT_GAMECONTROLLER) != 0)
+    if (SDL_Init(SDL_INIT_VIDEO | SDL_INIT_AUDIO | SDL_INIT_GAMECONTROLLER) != 0 && SDL_Init(SDL_INIT_VIDEO | SDL_INIT_GAMECONTROLLER) != 0)
         return false;
     self.window = SDL_CreateWindow(one->from->rom_name, 20 + place * (width + 20), 40, width, height, SDL_WINDOW_RESIZABLE);
     self.renderer = self.window != NULL ? SDL_CreateRenderer(self.window, -1, 0) : NULL;
@@ -77,8 +76,8 @@ static void strike(SDL_Scancode key) {
     case SDL_SCANCODE_F9: self.volume = SDL_max(0, self.volume - STEP); break;
     case SDL_SCANCODE_F10: self.volume = SDL_min(FULL, self.volume + STEP); break;
     case SDL_SCANCODE_F11:
-        SDL_SetWindowFullscreen(self.window, SDL_GetWindowFlags(self.window) & SDL_WINDOW_FULLSCREEN_DESKTOP
-                                ? 0 : SDL_WINDOW_FULLSCREEN_DESKTOP);
+        SDL_SetWindowFullscreen(self.window,
+                                SDL_GetWindowFlags(self.window) & SDL_WINDOW_FULLSCREEN_DESKTOP ? 0 : SDL_WINDOW_FULLSCREEN_DESKTOP);
         break;
     case SDL_SCANCODE_F12: self.hides_lines = !self.hides_lines; break;
     default: break;

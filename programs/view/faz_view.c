@@ -225,8 +225,10 @@ static void write_frame(FILE *file, uint32_t local, size_t frame) {
 static bool has_returned(void) {
     for (size_t frame = 1; frame < self.count; frame++)
         if ((self.rows[frame - 1].gone & ~self.rows[frame].gone) != 0) {
-            fprintf(stderr, "faz-view: somebody is back from frame %zu on, and a script is one session, in which who has left stays away; "
-                    "`--frames %zu` writes what is before\n", frame, frame);
+            fprintf(stderr,
+                    "faz-view: somebody is back from frame %zu on, and a script is one session, in which who has left stays away; "
+                    "`--frames %zu` writes what is before\n",
+                    frame, frame);
             return true;
         }
     return false;
@@ -254,7 +256,10 @@ static int write_script(void) {
 
 static int run(const char *match) {
     const char *why;
-    faz_view_settings settings = { .servers = self.broker, .match = match, .game = &duel_game, .is_live = self.is_live,
+    faz_view_settings settings = { .servers = self.broker,
+                                   .match = match,
+                                   .game = &duel_game,
+                                   .is_live = self.is_live,
                                    .from = self.from < 0 ? FAZ_LATEST : (uint32_t)self.from,
                                    .cushion = (uint32_t)self.cushion };
     if (self.export != NULL) {
@@ -273,8 +278,8 @@ static int run(const char *match) {
         status = write_script();
     if (self.at_last[0] != 0)
         printf("frame %ld state %s\n", self.frames, self.at_last);
-    fprintf(stderr, "frame %u, %u malformed, %u other than before, %u gaps, asked %u times\n", self.told.frame,
-            self.told.malformed, self.told.other, self.told.gaps, self.told.asked);
+    fprintf(stderr, "frame %u, %u malformed, %u other than before, %u gaps, asked %u times\n", self.told.frame, self.told.malformed,
+            self.told.other, self.told.gaps, self.told.asked);
     faz_view_close(self.view);
     if (self.out != NULL)
         fclose(self.out);
@@ -284,11 +289,16 @@ static int run(const char *match) {
 
 int main(int count, char **words) {
     static const option options[] = {
-        { "--broker", NULL, &self.broker, NULL },       { "--from", &self.from, NULL, NULL },
-        { "--cushion", &self.cushion, NULL, NULL },     { "--export", NULL, &self.export, NULL },
-        { "--frames", &self.frames, NULL, NULL },       { "--states", NULL, &self.states, NULL },
-        { "--wait", &self.wait, NULL, NULL },           { "--speed", &self.speed, NULL, NULL },
-        { "--live", NULL, NULL, &self.is_live },        { "--headless", NULL, NULL, &self.is_headless },
+        { "--broker", NULL, &self.broker, NULL },
+        { "--from", &self.from, NULL, NULL },
+        { "--cushion", &self.cushion, NULL, NULL },
+        { "--export", NULL, &self.export, NULL },
+        { "--frames", &self.frames, NULL, NULL },
+        { "--states", NULL, &self.states, NULL },
+        { "--wait", &self.wait, NULL, NULL },
+        { "--speed", &self.speed, NULL, NULL },
+        { "--live", NULL, NULL, &self.is_live },
+        { "--headless", NULL, NULL, &self.is_headless },
         { NULL, NULL, NULL, NULL },
     };
     if (is_help(words, usage))

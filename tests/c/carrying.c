@@ -185,8 +185,7 @@ static void send_all(uint32_t me) {
     static uint8_t bytes[FAZGROND_DATAGRAM];
     size_t length;
     for (uint32_t to = 0; to < with.machines; to++)
-        if (fazgrond_peer_send(&all[me].peer, &all[me].session, (uint8_t)to, turn * TURN, bytes, sizeof bytes, &length)
-            == FAZGROND_OK)
+        if (fazgrond_peer_send(&all[me].peer, &all[me].session, (uint8_t)to, turn * TURN, bytes, sizeof bytes, &length) == FAZGROND_OK)
             post(me, to, bytes, length);
     send_more(me);
 }

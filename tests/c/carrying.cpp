@@ -21,8 +21,7 @@ struct Machine {
         match.draw = 70 + me;
         match.silent_after = 500;
         fazgrond_one_number(&match, 7);
-        is_open = session.open(fazgrond::settings_of(machines, 1u << me)) == Code::ok
-            && peer.open_carrying(session, match) == Code::ok;
+        is_open = session.open(fazgrond::settings_of(machines, 1u << me)) == Code::ok && peer.open_carrying(session, match) == Code::ok;
     }
 };
 
@@ -48,7 +47,7 @@ bool take_turn(std::vector<Machine> &all, std::uint32_t me, std::uint32_t turn) 
     auto frame = self.session.frame().value_or(0);
     bool is_given = self.peer.is_running() && frame < frames
         && self.session.add_local_input(std::uint8_t(me + 1), word_of(me, frame)) == Code::ok;
-    Code played = is_given ? self.session.advance_frame(reached, step)
+    Code played = is_given        ? self.session.advance_frame(reached, step)
         : self.session.has_news() ? self.session.synchronize_input(row, step)
                                   : Code::ok;
     if (played != Code::ok)

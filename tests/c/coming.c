@@ -1,8 +1,8 @@
 /* Who comes into a match: players who come back after a crash, who come late, and who only watch (faz_rejoin.h), in one process. Of each
- * case is looked at: that who comes has the others' states, at each frame; that its words count; that nobody who is there is put out; and how
- * many turns it took. All rows and states are compared with those of a game that is run once over the settled rows. The last line is
- * `N passed, M failed`. `coming few` plays few of each kind, `coming times` says how long coming back takes, and `coming COUNT` draws so many
- * worlds: who stops when, who comes when, on which line. */
+ * case is looked at: that who comes has the others' states, at each frame; that its words count; that nobody who is there is put out; and
+ * how many turns it took. All rows and states are compared with those of a game that is run once over the settled rows. The last line is
+ * `N passed, M failed`. `coming few` plays few of each kind, `coming times` says how long coming back takes, and `coming COUNT` draws so
+ * many worlds: who stops when, who comes when, on which line. */
 /* What isn't as it has to be ends its case. */
 #define CHECKS_OF "%s (%u, %u)", of_what, (unsigned)of_one, (unsigned)of_two
 #define CHECKS_LEAVE longjmp(way_out, 1)
@@ -63,8 +63,8 @@ typedef struct place {
 
 typedef struct terms {
     uint32_t machines, players, latency, loss, size;
-    bool is_lying; /* place 0 gives another state than it has */
-    uint32_t junk; /* so many datagrams of a stranger come to each place in a turn */
+    bool is_lying;    /* place 0 gives another state than it has */
+    uint32_t junk;    /* so many datagrams of a stranger come to each place in a turn */
     uint32_t unaware; /* this place doesn't know of the one behind the others, and has no line with it */
 } terms;
 
@@ -240,8 +240,9 @@ static void begin_program(uint32_t at) {
     for (uint32_t other = 0; other < PLACES; other++)
         if (other != at) {
             faz_seat *seat = &self->hosting.seat[other];
-            *seat = (faz_seat){ .is_taken = true, .number = number_of(at, other), .ticket = fazgrond_ticket(COMERS, other),
-                                .players = players_of(other) };
+            *seat = (faz_seat){
+                .is_taken = true, .number = number_of(at, other), .ticket = fazgrond_ticket(COMERS, other), .players = players_of(other)
+            };
         }
     if (at == with.unaware)
         self->hosting.seat[with.machines].is_taken = false;

@@ -25,7 +25,18 @@ static jmp_buf way_out;
 
 /* ---- A match, whose turns take 16 milliseconds. */
 
-enum { MOST = 5, SLOTS = 64, KEPT = 4096, EPOCHS = 64, MARKS = 256, PLANS = 16, UNDER_WAY = 1024, TURN = 16, MOST_DELAY = 8, FIRST_DELAY = 2 };
+enum {
+    MOST = 5,
+    SLOTS = 64,
+    KEPT = 4096,
+    EPOCHS = 64,
+    MARKS = 256,
+    PLANS = 16,
+    UNDER_WAY = 1024,
+    TURN = 16,
+    MOST_DELAY = 8,
+    FIRST_DELAY = 2
+};
 
 typedef struct datagram {
     uint32_t due;
@@ -52,8 +63,8 @@ typedef struct machine {
     fazgrond_session session;
     fazgrond_peer peer;
     bool is_here, is_out, was_running, is_closing; /* is_out: the others have put it out, and it takes its turns all the same */
-    bool stays_behind;      /* it doesn't go on in the second epoch */
-    uint32_t mute_from;     /* it gives no words from its epoch of this place on; 0: it does */
+    bool stays_behind;                             /* it doesn't go on in the second epoch */
+    uint32_t mute_from;                            /* it gives no words from its epoch of this place on; 0: it does */
     state now, saved[SLOTS], serial;
     bool is_used[SLOTS];
     fazgrond_epoch epochs[EPOCHS];
@@ -64,7 +75,7 @@ typedef struct machine {
     uint32_t given[FAZGROND_PLAYERS][KEPT], gave[FAZGROND_PLAYERS];
     uint64_t known[FAZGROND_PLAYERS];
     uint32_t refused_at[KEPT], stood_at[KEPT]; /* of each turn: whether a word was refused in it, or no frame was run */
-    uint32_t wait, left[MOST], dropped; /* how often it was told that another one is gone, and that it is itself */
+    uint32_t wait, left[MOST], dropped;        /* how often it was told that another one is gone, and that it is itself */
     uint32_t jobs[2], jobs_out;
     uint32_t left_at[MOST], stalled[MOST], stalled_at[MOST], gone_in[MOST]; /* when; and that it is stalled, and gone in how long */
     datagram line[UNDER_WAY];
@@ -160,8 +171,7 @@ static state stepped(state from, const fazgrond_row *row) {
 static bool is_same_state(state one, state other) { return one.mixed == other.mixed && one.frame == other.frame; }
 
 static bool is_same_row(const fazgrond_row *one, const fazgrond_row *other) {
-    return one->count == other->count && one->gone == other->gone
-        && memcmp(one->words, other->words, one->count * sizeof *one->words) == 0;
+    return one->count == other->count && one->gone == other->gone && memcmp(one->words, other->words, one->count * sizeof *one->words) == 0;
 }
 
 static bool is_gone(const fazgrond_row *row, uint32_t player) { return (row->gone >> player & 1) != 0; }
@@ -1126,7 +1136,8 @@ static void puts_if_there(uint32_t me, fazgrond_mark mark) {
         OK(put(me, me, mark));
 }
 
-/* Which of three machines stops near a mark, its own or another's, and when; and which other one doesn't hear it for so many turns before. */
+/* Which of three machines stops near a mark, its own or another's, and when; and which other one doesn't hear it for so many turns before.
+ * */
 typedef struct stopping {
     uint32_t stopped, marker, at, deaf, unheard;
 } stopping;
@@ -1234,9 +1245,9 @@ static void is_gone_as_told(uint32_t me, uint32_t who) {
     is_about((self->left_at[who] - self->stalled_at[who]) * TURN, self->gone_in[who]);
 }
 
-/* One of three answers, and doesn't go on in the next epoch, or goes on and gives no words there. With a delay it is at frame 0 then: all is
- * known before it would play past the end. It holds the others up, which is told, and is put out: one that gives no words as in the midst
- * of an epoch, and one that stays in the old epoch once who might have kept it there would be gone. */
+/* One of three answers, and doesn't go on in the next epoch, or goes on and gives no words there. With a delay it is at frame 0 then: all
+ * is known before it would play past the end. It holds the others up, which is told, and is put out: one that gives no words as in the
+ * midst of an epoch, and one that stays in the old epoch once who might have kept it there would be gone. */
 static void holds_up_a_seam(uint32_t how, uint32_t delay) {
     terms of = terms_for(3);
     uint32_t who = how / 2, other = who == 0 ? 1 : 0;
@@ -1425,8 +1436,12 @@ static void are_tickets(uint32_t unused, uint32_t none) {
         uint64_t comers, ticket;
         uint32_t name;
     } known[] = {
-        { 0, 0x374708ff00000000, 0 }, { 1, 0x7838258200000000, 0 }, { 1, 0x532deabf00000001, 1 },
-        { 0x123456789abcdef, 0x59c098da00000007, 7 }, { UINT64_MAX, 0x4ffad116ffffffff, UINT32_MAX }, { 5, 0xc4ef8d80ffffffff, UINT32_MAX },
+        { 0, 0x374708ff00000000, 0 },
+        { 1, 0x7838258200000000, 0 },
+        { 1, 0x532deabf00000001, 1 },
+        { 0x123456789abcdef, 0x59c098da00000007, 7 },
+        { UINT64_MAX, 0x4ffad116ffffffff, UINT32_MAX },
+        { 5, 0xc4ef8d80ffffffff, UINT32_MAX },
     };
     (void)unused, (void)none;
     for (size_t at = 0; at < sizeof known / sizeof *known; at++) {
@@ -1566,8 +1581,8 @@ static void comes_where_some_stall(uint32_t marker, uint32_t late) {
     comes_in(of, marker, late);
 }
 
-/* Who comes is heard, and gives no words: that is told of it. It is put out once who might have kept it from beginning would be gone, and the
- * others play on. */
+/* Who comes is heard, and gives no words: that is told of it. It is put out once who might have kept it from beginning would be gone, and
+ * the others play on. */
 static void comes_mute(uint32_t marker, uint32_t late) {
     terms of = one_is_free(2);
     of.stalled_after = 2000;

@@ -151,9 +151,7 @@ static uint32_t hand_over_due(machine *self) {
     return handed;
 }
 
-static int32_t hand_over(machine *self, uint32_t count) {
-    return fazgrond_peer_hand_over(&self->peer, &self->session, count);
-}
+static int32_t hand_over(machine *self, uint32_t count) { return fazgrond_peer_hand_over(&self->peer, &self->session, count); }
 
 /* ---- Two machines of which the second holds words back, one call after another. */
 
@@ -517,9 +515,7 @@ static uint32_t below(uint32_t count) {
 }
 
 /* What a player holds in a frame. */
-static uint32_t word_of(uint32_t me, uint32_t frame) {
-    return frame / (3 + 2 * me) * 2654435761u >> 29;
-}
+static uint32_t word_of(uint32_t me, uint32_t frame) { return frame / (3 + 2 * me) * 2654435761u >> 29; }
 
 /* One datagram in five is lost, one in ten comes twice, and each comes one to five turns later. */
 static void send_to(machine *other, uint32_t turn, const uint8_t *bytes, size_t length) {

@@ -62,7 +62,9 @@ static bool is_cut[MACHINES][MACHINES];
 static datagram *pool; /* what honest machines sent before, to whomever */
 static uint32_t turn, lies, answered[CODES];
 
-static uint64_t number_of(uint32_t one, uint32_t other) { return 0x9e3779b97f4a7c15u * (1 + (one < other ? one * 8 + other : other * 8 + one)); }
+static uint64_t number_of(uint32_t one, uint32_t other) {
+    return 0x9e3779b97f4a7c15u * (1 + (one < other ? one * 8 + other : other * 8 + one));
+}
 static uint64_t draw_of(uint32_t me) { return 0x1000 + me; }
 static uint32_t now_of(uint32_t me) { return turn * TURN + me * 1000003; }
 static bool is_honest(uint32_t me) { return me < HONEST; }

@@ -256,9 +256,7 @@ static size_t pass_or(machine *from, machine *to, uint8_t machine, uint32_t now,
     return sent;
 }
 
-static size_t pass(machine *from, machine *to, uint8_t machine, uint32_t now) {
-    return pass_or(from, to, machine, now, FAZGROND_OK);
-}
+static size_t pass(machine *from, machine *to, uint8_t machine, uint32_t now) { return pass_or(from, to, machine, now, FAZGROND_OK); }
 
 /* The other hears a play: what is sent before it may be a hello. */
 static void pass_play(machine *from, machine *to, uint8_t machine, uint32_t now) {
@@ -308,9 +306,7 @@ static int32_t sent_to(machine *at, uint8_t machine, uint32_t now, size_t room, 
     return fazgrond_peer_send(&at->peer, &at->session, machine, now, bytes, room, written);
 }
 
-static int32_t heard_by(machine *at, size_t come, uint32_t now) {
-    return fazgrond_peer_receive(&at->peer, &at->session, bytes, come, now);
-}
+static int32_t heard_by(machine *at, size_t come, uint32_t now) { return fazgrond_peer_receive(&at->peer, &at->session, bytes, come, now); }
 
 static int32_t bye_of(machine *at, uint8_t machine, size_t room, size_t *written) {
     return fazgrond_peer_bye(&at->peer, machine, FAZGROND_BYE_OWN, bytes, room, written);

@@ -106,15 +106,9 @@ static void carry_out(stage *on, const fazgrond_request *request) {
     if (request->slot >= SLOTS)
         abort();
     switch (request->kind) {
-    case FAZGROND_LOAD:
-        on->state = on->saved[request->slot];
-        break;
-    case FAZGROND_SAVE:
-        on->saved[request->slot] = on->state;
-        break;
-    case FAZGROND_STEP:
-        on->state = stepped(on->state, &request->row);
-        break;
+    case FAZGROND_LOAD: on->state = on->saved[request->slot]; break;
+    case FAZGROND_SAVE: on->saved[request->slot] = on->state; break;
+    case FAZGROND_STEP: on->state = stepped(on->state, &request->row); break;
     }
 }
 
@@ -161,8 +155,8 @@ static int32_t plan_of(stage *on, plan *made) {
     if (code != FAZGROND_OK)
         return code;
     text[length] = '\0';
-    if (sscanf((const char *)text, "rollcert %*u players %*u base %" SCNu32 " from %" SCNu32 " time %" SCNu32, &base,
-               &made->from, &time) != 3)
+    if (sscanf((const char *)text, "rollcert %*u players %*u base %" SCNu32 " from %" SCNu32 " time %" SCNu32, &base, &made->from, &time)
+        != 3)
         abort();
     made->to = base + time;
     return FAZGROND_OK;
@@ -178,8 +172,8 @@ static void put_whether(int32_t code) {
 }
 
 static void put_rolled(stage *on, uint32_t from, uint32_t rerun) {
-    printf("frame %" PRIu32 " from %" PRIu32 " rerun %" PRIu32 " settled %" PRIu32 " state %" PRIu64, frame_of(on), from,
-           rerun, settled_of(on), on->state);
+    printf("frame %" PRIu32 " from %" PRIu32 " rerun %" PRIu32 " settled %" PRIu32 " state %" PRIu64, frame_of(on), from, rerun,
+           settled_of(on), on->state);
 }
 
 static void put_row(const fazgrond_row *row) {
@@ -196,8 +190,8 @@ static void seen(stage *on) {
     size_t entries = 0;
     plan made;
     fazgrond_log_length(&on->session, &entries);
-    printf("frame %" PRIu32 " settled %" PRIu32 " log %zu state %" PRIu64 " settled state %" PRIu64, frame_of(on),
-           settled_of(on), entries, on->state, settled_state(on));
+    printf("frame %" PRIu32 " settled %" PRIu32 " log %zu state %" PRIu64 " settled state %" PRIu64, frame_of(on), settled_of(on), entries,
+           on->state, settled_state(on));
     if (plan_of(on, &made) == FAZGROND_OK)
         printf(" plan to %" PRIu32 " from %" PRIu32 " rerun %" PRIu32 "\n", made.to, made.from, made.to - made.from);
     else

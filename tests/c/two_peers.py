@@ -1,5 +1,5 @@
-"""What two_peers.c, watch.c, come_back.c and two_crashes.c have to print, without any rollback: the game is run once, with each player's words in
-their frames.
+"""What two_peers.c, watch.c, come_back.c and two_crashes.c have to print, without any rollback: the game is run once, with each player's
+words in their frames.
 
     python3 two_peers.py > two_peers.stdout
     python3 two_peers.py watch > watch.stdout

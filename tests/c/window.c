@@ -58,8 +58,8 @@ static uint64_t tried(const model *self) {
 }
 
 static void beside_model(uint64_t base, long numbers) {
-    model all = {.base = base, .taken = calloc(SPAN / 8, 1)};
-    fazgrond_window window = {0};
+    model all = { .base = base, .taken = calloc(SPAN / 8, 1) };
+    fazgrond_window window = { 0 };
     long taken = 0, wrong = 0;
     for (long n = 0; n < numbers; n++) {
         uint64_t number = tried(&all);
@@ -84,7 +84,7 @@ static void beside_model(uint64_t base, long numbers) {
 
 /* What the oldest and the newest within reach are to each other. */
 static void of_edges(uint64_t high) {
-    fazgrond_window window = {0};
+    fazgrond_window window = { 0 };
     CHECK_IS(fazgrond_window_note(&window, high), 1);
     CHECK_IS(fazgrond_window_note(&window, high), 0);
     CHECK_IS(fazgrond_window_is_new(&window, high - FAZGROND_WINDOW_REACH), 1);
@@ -108,7 +108,7 @@ int main(int argc, char **argv) {
     for (uint64_t high = 2000; high < 2200; high++)
         of_edges(high);
     of_edges(UINT64_MAX);
-    fazgrond_window window = {0};
+    fazgrond_window window = { 0 };
     CHECK_IS(fazgrond_window_note(&window, 0), 1);
     CHECK_IS(fazgrond_window_note(&window, 0), 0);
     CHECK_IS(fazgrond_window_note(&window, UINT64_MAX), 1);

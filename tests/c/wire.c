@@ -16,6 +16,7 @@
 static const uint64_t draws[2] = { 0x0102030405060708, 0x1112131415161718 };
 static const uint64_t host_draw = 0xc1c2c3c4c5c6c7c8, viewer_draw = 0xd1d2d3d4d5d6d7d8;
 
+/* clang-format off */
 static const uint8_t first_hello[61] = {
     0x46, 0x5a, 0x47, 0x34, 0x39, 0xa6, 0x21, 0x44, 0x2c, 0x65, 0x56, 0xfb, 0x01, 0x00, 0x02, 0x01,
     0x00, 0x01, 0xff, 0xff, 0xff, 0xff, 0xff, 0xff, 0x01, 0x23, 0x45, 0x67, 0x89, 0xab, 0xcd, 0xef,
@@ -75,6 +76,7 @@ static const uint8_t viewers_answer[26] = {
     0x46, 0x5a, 0x47, 0x34, 0x34, 0x2a, 0x07, 0xed, 0x23, 0x0e, 0xb2, 0xbe, 0xff, 0x01, 0x81, 0x05,
     0x00, 0x00, 0x03, 0xdb, 0x04, 0xdb, 0x04, 0x00, 0x00, 0x00,
 };
+/* clang-format on */
 
 enum { KIND = 13, HELLO = 0, PLAY = 1, MAP = 3, CARRIED = 4 };
 
@@ -223,7 +225,7 @@ static void examples(void) {
     play_up_to(&one, &two, 117);
     play(&one, 1, 2);
     pass(&one, &two, 1, 0, 0);
-    play(&two, 2, 6); /* now both have what the example tells */
+    play(&two, 2, 6);                                                /* now both have what the example tells */
     IS(heard(&one, marked, sizeof marked, 0), FAZGROND_NO_DATAGRAM); /* its words aren't taken without their mark */
     has_words(&one, 117, 117);
     IS(heard(&one, turn, sizeof turn, 0), FAZGROND_OK);
@@ -253,7 +255,9 @@ static void is_whole(const uint8_t *text, size_t length) {
     for (size_t bit = 0; bit < 8 * length; bit++) {
         bytes[bit / 8] ^= (uint8_t)(1 << bit % 8);
         IS(heard(&one, bytes, length, 0),
-           bytes[12] == 1 ? FAZGROND_NOT_SEALED : bytes[12] == 0 ? FAZGROND_OWN_MACHINE : FAZGROND_INVALID_MACHINE);
+           bytes[12] == 1       ? FAZGROND_NOT_SEALED
+               : bytes[12] == 0 ? FAZGROND_OWN_MACHINE
+                                : FAZGROND_INVALID_MACHINE);
         bytes[bit / 8] ^= (uint8_t)(1 << bit % 8);
     }
     int32_t code = heard(&one, bytes, length, 0);
@@ -293,8 +297,9 @@ static void refused(void) {
 
 /* The examples of a line: what the viewer sends is the example, and each end opens what is for it. */
 static void line_examples(void) {
-    fazgrond_line_settings settings = { .number = LINE, .draw = host_draw, .digest = DIGEST, .opening = OPENING, .machines = 2,
-                                        .silent_after = 5000 };
+    fazgrond_line_settings settings = {
+        .number = LINE, .draw = host_draw, .digest = DIGEST, .opening = OPENING, .machines = 2, .silent_after = 5000
+    };
     machine host;
     fazgrond_line line = FAZGROND_CLOSED;
     fazgrond_viewer viewer = FAZGROND_CLOSED;

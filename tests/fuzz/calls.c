@@ -150,8 +150,7 @@ static void check_settled(subject *self) {
 static void roll(subject *self, input *in, bool is_advance) {
     fazgrond_row row;
     fazgrond_reached reached;
-    int32_t code = is_advance ? fazgrond_advance_frame(&self->session, &reached)
-                              : fazgrond_synchronize_input(&self->session, &row);
+    int32_t code = is_advance ? fazgrond_advance_frame(&self->session, &reached) : fazgrond_synchronize_input(&self->session, &row);
     if (code == FAZGROND_PENDING)
         return;
     if (take_byte(in) == 255) {
@@ -232,8 +231,7 @@ static void call_of_session(subject *self, input *in) {
         uint8_t player = (uint8_t)take_some(in, 5);
         uint32_t frame = 0;
         fazgrond_confirmed(&self->session, player, &frame);
-        fazgrond_remote_input(&self->session, player, frame + (take_byte(in) < 250 ? 0 : take_number(in)), take_some(in, 4),
-                              &repeated);
+        fazgrond_remote_input(&self->session, player, frame + (take_byte(in) < 250 ? 0 : take_number(in)), take_some(in, 4), &repeated);
         break;
     }
     case 6: roll(self, in, false); break;
@@ -301,9 +299,7 @@ static void call_of_line(subject *self, input *in, uint32_t what, size_t room) {
     case 12: fazgrond_viewer_bye(&self->viewer, bytes, room, &length); break;
     case 13: fazgrond_line_close(&self->line); break;
     case 14: fazgrond_viewer_close(&self->viewer); break;
-    default:
-        fazgrond_line_look(&self->line, self->now, &state);
-        fazgrond_viewer_look(&self->viewer, self->now, &state);
+    default: fazgrond_line_look(&self->line, self->now, &state); fazgrond_viewer_look(&self->viewer, self->now, &state);
     }
     MUST(length <= room);
     free(bytes);

@@ -27,9 +27,7 @@ typedef struct scene {
     bool is_forged;
 } scene;
 
-static uint32_t owner_of(const scene *self, uint32_t player) {
-    return player < self->players ? player % 2 : FAZGROND_NO_PLAYER;
-}
+static uint32_t owner_of(const scene *self, uint32_t player) { return player < self->players ? player % 2 : FAZGROND_NO_PLAYER; }
 
 static void open_peer(scene *self, uint32_t me) {
     fazgrond_settings settings = fazgrond_settings_for(self->players);
@@ -84,8 +82,8 @@ static void open_all(scene *self, input *in) {
 static void pass(scene *self, uint32_t from) {
     packet made;
     uint32_t to = 1 - from;
-    if (fazgrond_peer_send(&self->peers[from], &self->sessions[from], (uint8_t)to, self->now, made.bytes, sizeof made.bytes,
-                           &made.length) == FAZGROND_OK)
+    if (fazgrond_peer_send(&self->peers[from], &self->sessions[from], (uint8_t)to, self->now, made.bytes, sizeof made.bytes, &made.length)
+        == FAZGROND_OK)
         (void)fazgrond_peer_receive(&self->peers[to], &self->sessions[to], made.bytes, made.length, self->now);
 }
 
@@ -130,9 +128,7 @@ static looks look(scene *self) {
     return seen;
 }
 
-static bool is_code(int32_t code) {
-    return code == FAZGROND_OK || (code >= FAZGROND_NOT_SEALED && code <= FAZGROND_OUTSIDE);
-}
+static bool is_code(int32_t code) { return code == FAZGROND_OK || (code >= FAZGROND_NOT_SEALED && code <= FAZGROND_OUTSIDE); }
 
 /* An end hears a packet, in memory of just its length. */
 static void hear(scene *self, bool is_viewer, const packet *come, bool is_forged) {
@@ -155,9 +151,9 @@ static void hear(scene *self, bool is_viewer, const packet *come, bool is_forged
 }
 
 static bool make_packet(scene *self, bool is_viewer, packet *made) {
-    int32_t code = is_viewer ? fazgrond_viewer_send(&self->viewer, self->now, made->bytes, sizeof made->bytes, &made->length)
-                             : fazgrond_line_send(&self->line, &self->sessions[0], self->now, made->bytes, sizeof made->bytes,
-                                                  &made->length);
+    int32_t code = is_viewer
+        ? fazgrond_viewer_send(&self->viewer, self->now, made->bytes, sizeof made->bytes, &made->length)
+        : fazgrond_line_send(&self->line, &self->sessions[0], self->now, made->bytes, sizeof made->bytes, &made->length);
     MUST(code == FAZGROND_OK || code == FAZGROND_NOTHING);
     return code == FAZGROND_OK;
 }

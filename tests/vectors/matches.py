@@ -439,8 +439,8 @@ def kept():
     it.run(2)
     it.stop(2)
     it.run(16)
-    it.note("For more than 300 ms machine 0 waits for words of machine 2, which is gone then, and that machine 1 takes some. But machine 1 has "
-            "words of machine 2 that machine 0 lacks, so it may be kept by that one. It hands them on, and machine 0 goes on too.")
+    it.note("For more than 300 ms machine 0 waits for words of machine 2, which is gone then, and that machine 1 takes some. But machine 1 "
+            "has words of machine 2 that machine 0 lacks, so it may be kept by that one. It hands them on, and machine 0 goes on too.")
     it.run(24)
     return it.text
 

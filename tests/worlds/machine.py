@@ -16,7 +16,8 @@ doesn't hear, and go on with the others.
 
 Whoever leaves, or ends, says bye in three turns. It makes no turns of its own then, and so tells no map; but it still hands on.
 
-A machine *hears another straight* by a play that comes from that one itself, alone or in what it carries, and that is newer than all before.
+A machine *hears another straight* by a play that comes from that one itself, alone or in what it carries, and that is newer than all
+before.
 
 The clock of a machine goes on in its turns, as it sends, and as a hello, a play or a bye comes, carried or not. A map, and what is
 carried, is heard at the moment that the clock shows then.
@@ -28,7 +29,7 @@ from contact import Contact, Hello
 from epochs import Epoch, is_void, mask, successor
 from lines import STEPS
 from mesh import DELAY_LIMIT
-from newcomers import Had, Host, Newcomer
+from newcomers import Had, Host
 from rules import holds
 import sizes
 

@@ -169,9 +169,9 @@ class Mesh:
         return all(given < view.has[p] + threshold or self.left[p] is not None for p in self.players)
 
     def may_be_kept(self, machine, wait, threshold):
-        """Whether what isn't seen here may keep one from what is waited for: from taking words a mark; from going on a third machine, which is
-        silent and not gone yet, by words that came there and not here, of which one may have a mark; or by not having told there what has to
-        be told before a player leaves, who has left here."""
+        """Whether what isn't seen here may keep one from what is waited for: from taking words a mark; from going on a third machine, which
+        is silent and not gone yet, by words that came there and not here, of which one may have a mark; or by not having told there what
+        has to be told before a player leaves, who has left here."""
         view, (what, _) = self.told[machine], wait
         given = self.given_by(machine, view)
         return what == TAKES or any(

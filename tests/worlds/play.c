@@ -72,7 +72,9 @@ typedef struct machine {
     uint32_t word[PLAYERS];
     fazgrond_epoch epoch;
     uint32_t seat, names[MACHINES], met;
-    struct { uint32_t rows, frame; } looked;
+    struct {
+        uint32_t rows, frame;
+    } looked;
     uint64_t shown_before;
     wish wish;
     FILE *trace;
@@ -220,9 +222,7 @@ static void send(world *self, uint32_t from, uint32_t to, const uint8_t *bytes, 
 
 /* ---- A machine. */
 
-static uint32_t clock_of(const world *self, const machine *at) {
-    return (uint32_t)(self->turn * 50u / 3 + 1 + at->leap);
-}
+static uint32_t clock_of(const world *self, const machine *at) { return (uint32_t)(self->turn * 50u / 3 + 1 + at->leap); }
 
 /* A player that nobody owns may get an owner, if the match goes on in epochs. */
 static fazgrond_epoch first_epoch(const world *self) {
@@ -491,9 +491,7 @@ static void go_on(world *self, machine *at) {
 
 /* ---- Marks. */
 
-static uint64_t ticket_of(uint64_t newcomer) {
-    return fazgrond_ticket(newcomer < FORGERS ? COMERS : COMERS + 1, (uint32_t)newcomer);
-}
+static uint64_t ticket_of(uint64_t newcomer) { return fazgrond_ticket(newcomer < FORGERS ? COMERS : COMERS + 1, (uint32_t)newcomer); }
 
 static bool is_void(const machine *at, const wish *it) {
     for (uint32_t player = 0; player < PLAYERS; player++) {
@@ -835,8 +833,7 @@ static uint64_t digest_of(const world *self, machine *at) {
         for (uint32_t player = 0; player < PLAYERS; player++) {
             uint8_t word[4] = { 255, 255, 255, 255 };
             uint32_t value;
-            if (player < player_count(self)
-                && fazgrond_confirmed_word(&at->session, (uint8_t)(player + 1), frame, &value) == FAZGROND_OK)
+            if (player < player_count(self) && fazgrond_confirmed_word(&at->session, (uint8_t)(player + 1), frame, &value) == FAZGROND_OK)
                 for (int byte = 0; byte < 4; byte++)
                     word[byte] = (uint8_t)(value >> (24 - 8 * byte));
             sha256_add(&sum, word, sizeof word);

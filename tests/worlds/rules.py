@@ -65,9 +65,9 @@ RULES = {
 # In which worlds it shows that a rule was left out.
 NEEDED = {
     "fence": ["anything"], "sets": ["anything"], "counts": ["anything"], "echo": ["openings"], "fresh": ["deaf"], "ten": ["leaps"],
-    "quarter": ["swallows", "lines"], "most": ["deaf", "split"], "stalls": ["split"], "opened": ["hard"], "begun": ["openings"], "ends": ["split"],
-    "carry": ["lines"], "newer": ["copies"], "share": ["floods"], "one_way": ["lines"], "probe": ["openings"], "odd": ["openings"], "no_carrier": ["openings", "lines"],
-    "numbers": ["lines"],
+    "quarter": ["swallows", "lines"], "most": ["deaf", "split"], "stalls": ["split"], "opened": ["hard"], "begun": ["openings"],
+    "ends": ["split"], "carry": ["lines"], "newer": ["copies"], "share": ["floods"], "one_way": ["lines"],
+    "probe": ["openings"], "odd": ["openings"], "no_carrier": ["openings", "lines"], "numbers": ["lines"],
     "own_entry": ["forges"], "news": ["lines"], "again": ["lines"], "in_turn": ["swallows"],
     "pass_over": ["swallows"], "sure": ["lines"], "steps": ["lines"], "packed": ["lines"], "together": ["lines"], "full": ["lines"],
     "settled": ["hard"], "first": ["hard"], "void": ["epochs"], "marks_told_on": ["hard"], "left_in_id": ["hard", "parted"],

@@ -44,4 +44,3 @@ def traffic():
             whole = whole or sum(rate)
             print(f"{machines} machines, {name:18} machine 0 {rate[0]:7,}  1 {rate[1]:7,}  2 {rate[2]:7,}  3 {rate[3]:7,}"
                   f"  all {sum(rate):9,}  {sum(rate) / whole:.2f}", flush=True)
-

@@ -899,8 +899,8 @@ export class Peer extends Sealed {
   }
 
   /**
-   * Goes on in the next epoch if this one is over; else the answer is `NOTHING`. The session's `reached` says at what frame it is. Jobs that
-   * are out are given up first.
+   * Goes on in the next epoch if this one is over; else the answer is `NOTHING`. The session's `reached` says at what frame it is. Jobs
+   * that are out are given up first.
    */
   goOn() {
     const goOn = () => this.library.calls.peer_go_on(this.open, this.session.open, this.library.room);

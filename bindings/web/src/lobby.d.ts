@@ -29,8 +29,8 @@ export type LobbyEvent =
   | { what: "code"; text: string; why: number }
   /** The broker or the door isn't there, and is tried again and again. */
   | { what: "away"; text: string }
-  /** At who joins: nobody hosts by this code, or its last four signs are wrong (`why`), as somebody says who may be anybody. It is waited for
-   * the host: `text` says for how long, and "ended" comes then. */
+  /** At who joins: nobody hosts by this code, or its last four signs are wrong (`why`), as somebody says who may be anybody. It is waited
+   * for the host: `text` says for how long, and "ended" comes then. */
   | { what: "unanswered"; why: number; text: string }
   /** `name` wants to join, and `who` is for `letIn`. At who joins, where there is no `who`: the player of `name`, who hosts, is asked. Both
    * see the same `text`, unless somebody stands between the two. */

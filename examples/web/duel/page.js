@@ -79,7 +79,9 @@ function wordOf(me) {
 
 /** What is to be done for another match: of who met by texts, and by a code. */
 function another() {
-  return meeting?.isByCode ? "for another match host again, or ask the other one for a new code" : "for another match make a new invitation";
+  return meeting?.isByCode
+    ? "for another match host again, or ask the other one for a new code"
+    : "for another match make a new invitation";
 }
 
 let counted = null; // what is told with the seconds that are left

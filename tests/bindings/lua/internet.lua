@@ -39,7 +39,7 @@ local function datagram(number)
 end
 
 local came, sent = { 0, 0 }, 0
-for turns = 1, 20000 do
+for _ = 1, 20000 do
     for at, one in ipairs(lines) do
         one:turn(millis())
         for signal in one.signal, one do

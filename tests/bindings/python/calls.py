@@ -183,7 +183,8 @@ def what_can_not_be_taken_is_said_by_its_name():
         for due, call in [*settings_by_name(session), *arguments_by_name(session, peer)]:
             assert said_by(call).startswith(due), (due, said_by(call))
         assert session.log_length() == 0
-    assert "'silentafter'" in said_by(lambda: Match(0, 2, [0, 1], 7, silentafter=500)) and "'number'" in said_by(lambda: Match(0, 2, [0, 1]))
+    assert "'silentafter'" in said_by(lambda: Match(0, 2, [0, 1], 7, silentafter=500))
+    assert "'number'" in said_by(lambda: Match(0, 2, [0, 1]))
 
 
 def members(kind, raw):

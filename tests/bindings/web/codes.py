@@ -78,7 +78,8 @@ def ended(found, words):
 def is_doubted(found, words):
     """Whether a page has said in these words what seems to be wrong, seconds before it ended."""
     events = [it for it in found.get("events", []) if it["what"] in ("unanswered", "ended")]
-    return [it["what"] for it in events] == ["unanswered", "ended"] and words in events[0]["text"] and events[1]["at"] - events[0]["at"] > 2000
+    return ([it["what"] for it in events] == ["unanswered", "ended"] and words in events[0]["text"]
+            and events[1]["at"] - events[0]["at"] > 2000)
 
 
 def taken(found):
@@ -141,8 +142,8 @@ def late_friends(server, served, kind):
 
 
 def tells_relays_alone(told):
-    """Whether a page has told places on relays, and neither where they were asked from nor an address of this machine. (The relay's own is the
-    loopback's.)"""
+    """Whether a page has told places on relays, and neither where they were asked from nor an address of this machine. (The relay's own is
+    the loopback's.)"""
     own = [it for it in run(["hostname", "-I"]).stdout.split() if it != "127.0.0.1"]
     ways = re.findall(r"candidate:[^\"\\]*", told)
     relays = [it for it in ways if " typ relay" in it and " raddr 0.0.0.0 rport 0" in it]
@@ -505,7 +506,8 @@ def loaded_anew(server, served, kind):
         one.wait_until_told(f"the other one has left: {again}", 20)
         other.wait_until_told(f"this page was loaded anew, and has left its match: {again}", 20)
         time.sleep(1)
-        check(f"a page that is loaded anew in {kind}", other.run("return document.getElementById('told').textContent").startswith("this page"))
+        told = other.run("return document.getElementById('told').textContent")
+        check(f"a page that is loaded anew in {kind}", told.startswith("this page"))
 
 
 def two_ask(server, served, kind):

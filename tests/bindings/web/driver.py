@@ -114,8 +114,8 @@ class Chromium(Driver):
                 self.url = f"http://127.0.0.1:{found.group(1)}"
                 break
         options = {"binary": shutil.which("chromium"), "args": CHROMIUM}
-        wanted = {"capabilities": {"alwaysMatch": {"browserName": "chrome", "acceptInsecureCerts": self.believes, "goog:chromeOptions": options}}}
-        self.session = self.call("POST", "/session", wanted)["sessionId"]
+        wanted = {"browserName": "chrome", "acceptInsecureCerts": self.believes, "goog:chromeOptions": options}
+        self.session = self.call("POST", "/session", {"capabilities": {"alwaysMatch": wanted}})["sessionId"]
 
     def end(self):
         if self.session is not None:

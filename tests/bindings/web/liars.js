@@ -2,8 +2,8 @@
 // writes is a check that failed, and the last one says how many there were.
 import { N, Pake } from "./src/pake.js";
 import {
-  Asks, DOOR, DoorSays, KINDS, Says, VERSION, inboxSubject, openAsk, readAsk, readKnock, readOffer, writeAnswer, writeAsk, writeHello, writeKnock,
-  writeOffer,
+  Asks, DOOR, DoorSays, KINDS, Says, VERSION, inboxSubject, openAsk, readAsk, readKnock, readOffer, writeAnswer, writeAsk, writeHello,
+  writeKnock, writeOffer,
 } from "./src/messages.js";
 import { Connection } from "./src/broker.js";
 import { Door } from "./src/door.js";
@@ -620,7 +620,8 @@ function hiddenWays() {
   const line = new Line({ isFirst: false, servers: [], relayOnly: true, say: (it) => said.push(it), told() {}, now: 0 });
   const [relay, relay6] = ["203.0.113.10 50000 typ relay", "2001:db8::a0 50000 typ relay"];
   const ways = [
-    "192.0.2.2 4000 typ host generation 0", "fd00::2 4001 typ host", "9b36eaac-bb2e.local 4002 typ host", `${relay} raddr 192.0.2.2 rport 4003`,
+    "192.0.2.2 4000 typ host generation 0", "fd00::2 4001 typ host", "9b36eaac-bb2e.local 4002 typ host",
+    `${relay} raddr 192.0.2.2 rport 4003`,
     "198.51.100.7 40000 typ srflx raddr 192.0.2.2 rport 4000", `${relay6} raddr fd00::2 rport 4004 generation 0`,
   ].map((it, at) => `candidate:${at} 1 udp 41885439 ${it}`);
   const sdp = ["v=0", "o=- 1 2 IN IP4 192.0.2.2", "s=-", "m=application 4000 UDP/DTLS/SCTP webrtc-datachannel", "c=IN IP6 fd00::2",
@@ -628,10 +629,13 @@ function hiddenWays() {
   line.put({ description: { type: "offer", sdp } });
   for (const candidate of [...ways, ""]) line.put({ candidate: { candidate, sdpMid: "0" } });
   line.put({ end: true });
-  for (const own of ["192.0.2.2", "fd00::2", ".local", "198.51.100.7"]) check(`the address ${own}`, said.some((it) => it.includes(own)), false);
+  for (const own of ["192.0.2.2", "fd00::2", ".local", "198.51.100.7"])
+    check(`the address ${own}`, said.some((it) => it.includes(own)), false);
   const items = said.flatMap((it) => JSON.parse(it).items);
   const told = items.flatMap(({ candidate }) => candidate?.candidate ?? []);
-  const due = [relay, relay6].map((it, at) => `candidate:${3 + 2 * at} 1 udp 41885439 ${it} raddr 0.0.0.0 rport 0${at === 0 ? "" : " generation 0"}`);
+  const due = [relay, relay6].map(
+    (it, at) => `candidate:${3 + 2 * at} 1 udp 41885439 ${it} raddr 0.0.0.0 rport 0${at === 0 ? "" : " generation 0"}`,
+  );
   check("the places that are told", told.join(), [...due, ""].join());
   const rows = items[0].description.sdp.split("\r\n");
   check("the rows that are told", rows.length, sdp.split("\r\n").length - 4);

@@ -20,7 +20,7 @@ static void write_digits(const uint8_t *bytes, size_t length) {
 }
 
 int main(int count, char **words) {
-    static const char *const states[] = {"more", "done", "wrong"};
+    static const char *const states[] = { "more", "done", "wrong" };
     char line[2 * PAKE_BYTES + 2];
     uint8_t came[PAKE_BYTES], said[PAKE_BYTES], key[PAKE_KEY];
     pake *self = count == 4 ? faz_pake_open(strcmp(words[1], "host") == 0, words[2], words[3]) : NULL;

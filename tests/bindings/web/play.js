@@ -1,6 +1,6 @@
 // A machine of a match, for tests: it meets the other one by the server's mailbox, plays as its address says, and posts what came of it
 // as its `name`.
-import { Code, Fazgrond } from "/site/fazgrond/fazgrond.js";
+import { Fazgrond } from "/site/fazgrond/fazgrond.js";
 import { Match, eachTurn } from "/site/match.js";
 import { Meeting } from "/site/meet.js";
 import { Bot } from "/site/rules.js";

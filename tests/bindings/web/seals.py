@@ -24,8 +24,8 @@ HCHACHA = {"key": bytes(range(32)).hex(), "bytes": "000000090000004a000000003141
 SUNSCREEN = {
     "key": bytes(range(0x80, 0xA0)).hex(), "nonce": bytes(range(0x40, 0x58)).hex(), "more": "50515253c0c1c2c3c4c5c6c7",
     "bytes": (b"Ladies and Gentlemen of the class of '99: If I could offer you only one tip for the future, sunscreen would be it.").hex(),
-    "due": "bd6d179d3e83d43b9576579493c0e939572a1700252bfaccbed2902c21396cbb731c7f1b0b4aa6440bf3a82f4eda7e39ae64c6708c54c216cb96b72e1213b452"
-           "2f8c9ba40db5d945b11b69b982c1bb9e3f3fac2bc369488f76b2383565d3fff921f9664c97637da9768812f615c68b13b52e"
+    "due": "bd6d179d3e83d43b9576579493c0e939572a1700252bfaccbed2902c21396cbb731c7f1b0b4aa6440bf3a82f4eda7e39ae64c6708c54c216cb96b72e1213"
+           "b4522f8c9ba40db5d945b11b69b982c1bb9e3f3fac2bc369488f76b2383565d3fff921f9664c97637da9768812f615c68b13b52e"
            "c0875924c1c7987947deafd8780acf49"}
 
 
@@ -80,8 +80,8 @@ def shown():
     for at in range(4):
         signer, user, account = passes.Key("A"), passes.Key("U"), passes.Key("A").text
         it = passes.Pass(signer.seed_text + account).greeting(b'INFO {"nonce":"%d-of-a-broker"}' % at, user)
-        found.append({"pass": signer.seed_text + account, "user": user.seed_text + account, "seed": user.seed, "open": passes.open_of(user.seed),
-                      "nonce": f"{at}-of-a-broker", **it})
+        found.append({"pass": signer.seed_text + account, "user": user.seed_text + account, "seed": user.seed,
+                      "open": passes.open_of(user.seed), "nonce": f"{at}-of-a-broker", **it})
     return found
 
 
@@ -92,9 +92,9 @@ def digits(it):
 def cases(sodium):
     all_sealed, all_boxes, all_codes = [SUNSCREEN, *sealed(sodium)], boxes(sodium), codes()
     found = {"hash": [{"bytes": b"abc", "key": b"", "due": ABC}, *hashes()], "poly1305": [POLY], "hchacha20": [HCHACHA],
-             "seal": all_sealed, "open": all_sealed, "open what was changed": all_sealed, "open by another kind": all_sealed, "box": all_boxes,
-             "a box that was changed": all_boxes, "code": all_codes, "a code that is read": all_codes, "a room's name": all_codes,
-             "a room's key": all_codes, "pairs": pairs(sodium), "passes": shown()}
+             "seal": all_sealed, "open": all_sealed, "open what was changed": all_sealed, "open by another kind": all_sealed,
+             "box": all_boxes, "a box that was changed": all_boxes, "code": all_codes, "a code that is read": all_codes,
+             "a room's name": all_codes, "a room's key": all_codes, "pairs": pairs(sodium), "passes": shown()}
     return {what: [digits(it) for it in of] for what, of in found.items()}
 
 

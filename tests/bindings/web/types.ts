@@ -47,7 +47,10 @@ export async function play(channel: RTCDataChannel, me: 0 | 1): Promise<number> 
   if (more !== null && more.machine === 1 - me) channel.send(more.bytes);
   const lasting = library.peer(session, { me, machines: 2, owners: [0, 1], number: 7n, comers: 5n }, peer.epoch() ?? undefined);
   if (lasting.mark(me + 1, { threshold: 8, comes: [2], ticket: library.ticket(5n, 3) }) === Answer.OK && lasting.goOn() === Answer.OK)
-    console.log(lasting.sendBefore(1 - me, 16), library.epochHas(library.epoch({ me, machines: 2, owners: [0, 1], number: 7n }, { players: 2, local: [1] }), me));
+    console.log(
+      lasting.sendBefore(1 - me, 16),
+      library.epochHas(library.epoch({ me, machines: 2, owners: [0, 1], number: 7n }, { players: 2, local: [1] }), me),
+    );
   const line = library.line(session, { number: 8n, host: me, machines: 2, owners: [0, 1] });
   const last: Uint8Array | null = lasting.hasStayed(1 - me) === true ? line.sendBefore(lasting, 16) : null;
   if (last !== null) channel.send(last);

@@ -41,9 +41,7 @@ static uint64_t u64(const uint8_t *at) {
 
 static void *const heap = (void *)1;
 
-static WINDOWS void *get_process_heap(void) {
-    return heap;
-}
+static WINDOWS void *get_process_heap(void) { return heap; }
 
 static WINDOWS void *heap_alloc(void *of, uint32_t flags, size_t size) {
     if (of != heap || flags != 0)
@@ -138,8 +136,8 @@ static function *export_of(const char *name) {
 
 /* The functions of fazgrond.h. */
 
-#define CALL(answer, name, parameters, arguments)      \
-    static WINDOWS answer(*dll_##name) parameters;     \
+#define CALL(answer, name, parameters, arguments) \
+    static WINDOWS answer(*dll_##name) parameters; \
     answer name parameters { return dll_##name arguments; }
 #include "../../../build/windows/calls.h"
 #undef CALL

@@ -53,8 +53,7 @@ static void carry_out_one(world *self, machine *at, aside *job) {
 }
 
 static bool is_fine(int32_t code) {
-    return code == FAZGROND_OK || code == FAZGROND_LATE || code == FAZGROND_ORPHAN || code == FAZGROND_DEAD
-        || code == FAZGROND_TREE_FULL;
+    return code == FAZGROND_OK || code == FAZGROND_LATE || code == FAZGROND_ORPHAN || code == FAZGROND_DEAD || code == FAZGROND_TREE_FULL;
 }
 
 static void graft(world *self, guesser *by, machine *at, aside *job) {

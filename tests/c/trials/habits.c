@@ -109,8 +109,7 @@ static void open_match(match *self, kind of, bool has_parts, uint32_t seed) {
     memset(self, 0, sizeof *self);
     draw_words(self, of, seed);
     trial_must(fazgrond_open(&self->session, &settings) == FAZGROND_OK, "a session opens");
-    trial_must(fazgrond_habits_open(&self->habits, pad_parts, has_parts ? PAD_PARTS : 0, pad_parts, 0) == FAZGROND_OK,
-               "habits open");
+    trial_must(fazgrond_habits_open(&self->habits, pad_parts, has_parts ? PAD_PARTS : 0, pad_parts, 0) == FAZGROND_OK, "habits open");
 }
 
 static void close_match(match *self) {
@@ -131,7 +130,10 @@ static uint32_t carry_out(match *self) {
         switch (request.kind) {
         case FAZGROND_LOAD: self->state = self->saved[request.slot]; break;
         case FAZGROND_SAVE: self->saved[request.slot] = self->state; break;
-        case FAZGROND_STEP: self->state = after(self->state, request.row.words[0], request.row.words[1]); frames++; break;
+        case FAZGROND_STEP:
+            self->state = after(self->state, request.row.words[0], request.row.words[1]);
+            frames++;
+            break;
         case FAZGROND_JOB_LOAD: aside = self->saved[request.slot]; break;
         case FAZGROND_JOB_SAVE: self->saved[request.slot] = aside; break;
         case FAZGROND_JOB_STEP: aside = after(aside, request.row.words[0], request.row.words[1]); break;

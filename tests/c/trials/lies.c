@@ -15,28 +15,19 @@ typedef enum course {
 } course;
 
 /* What is sealed wrongly. */
-typedef enum sealing {
-    SEALED_WELL,
-    ANOTHER_BIT,
-    HALF_A_TAG,
-    DRAWS_SWAPPED,
-    AS_A_HELLO,
-    ANOTHER_NUMBER,
-    FOR_ANOTHER,
-    NOT_AT_ALL
-} sealing;
+typedef enum sealing { SEALED_WELL, ANOTHER_BIT, HALF_A_TAG, DRAWS_SWAPPED, AS_A_HELLO, ANOTHER_NUMBER, FOR_ANOTHER, NOT_AT_ALL } sealing;
 
 typedef struct lie {
     const char *name;
-    void (*says)(world *self, packet *made, uint32_t to);                 /* of a play .. */
-    size_t (*spoils)(world *self, uint8_t *bytes, size_t length);         /* .. and of its bytes, before they are sealed */
-    void (*sends)(world *self, const datagram *sent);                     /* and this goes out too */
-    void (*hears)(packet *made);                                          /* and of plays to it so much comes to its program */
+    void (*says)(world *self, packet *made, uint32_t to);         /* of a play .. */
+    size_t (*spoils)(world *self, uint8_t *bytes, size_t length); /* .. and of its bytes, before they are sealed */
+    void (*sends)(world *self, const datagram *sent);             /* and this goes out too */
+    void (*hears)(packet *made);                                  /* and of plays to it so much comes to its program */
     sealing seal;
-    int32_t answer;  /* what the honest ones' library says to it */
-    unsigned told;   /* and what they are told, by kinds */
-    unsigned maybe;  /* and may be told, or not */
-    unsigned first;  /* but of these the first of them has to be told */
+    int32_t answer; /* what the honest ones' library says to it */
+    unsigned told;  /* and what they are told, by kinds */
+    unsigned maybe; /* and may be told, or not */
+    unsigned first; /* but of these the first of them has to be told */
     course course;
     uint32_t words; /* of an input; 0: one */
     uint32_t stalled_after;
@@ -510,14 +501,18 @@ enum { OUT = MAY_REFUSE | MAY_INTERRUPT | MAY_STALL | MAY_LEAVE, UNHEARD = MAY_I
     { .name = #what, .says = what, .answer = FAZGROND_OK, .told = 0, .maybe = MAY_STALL, .course = STANDS }
 /* Who gives none, or takes none, is put out for that, whatever else it says. */
 #define PUT_OUT .answer = FAZGROND_OK, .told = MAY_STALL | MAY_LEAVE, .course = GOES_ON, .stalled_after = 2000
-#define HOLDS_UP(what) { .name = #what, .says = what, PUT_OUT }
-#define SAYS(what, code, kinds, then) { .name = #what, .says = what, .answer = code, .told = kinds, .course = then }
+#define HOLDS_UP(what) \
+    { .name = #what, .says = what, PUT_OUT }
+#define SAYS(what, code, kinds, then) \
+    { .name = #what, .says = what, .answer = code, .told = kinds, .course = then }
 #define OF_TWO_WORDS(what) \
     { .name = #what, .says = what, .answer = FAZGROND_OUTSIDE, .told = OUT, .course = GOES_ON, .words = 2 }
-#define SPOILS(what, code, kinds) { .name = #what, .spoils = what, .answer = code, .told = kinds, .course = GOES_ON }
+#define SPOILS(what, code, kinds) \
+    { .name = #what, .spoils = what, .answer = code, .told = kinds, .course = GOES_ON }
 #define SEALS(what) \
     { .name = #what, .seal = what, .answer = FAZGROND_NOT_SEALED, .told = UNHEARD, .course = GOES_ON }
-#define SENDS(what, code) { .name = #what, .sends = what, .answer = code, .course = GOES_ON }
+#define SENDS(what, code) \
+    { .name = #what, .sends = what, .answer = code, .course = GOES_ON }
 
 static const lie lies[] = {
     SAYS(gone_stranger, FAZGROND_OUTSIDE, OUT, GOES_ON),
@@ -566,21 +561,21 @@ static const lie lies[] = {
     SAYS(clocks_that_stand, FAZGROND_OK, MAY_LEAVE, GOES_ON),
     SAYS(no_clocks_heard, FAZGROND_OK, MAY_LEAVE, GOES_ON),
     /* nobody hears its later clocks then: so it regards the others as silent, and says so, which all believe */
-    { .name = "last_number", .says = last_number, .told = MAY_LEAVE, .maybe = MAY_INTERRUPT | MAY_STALL | MAY_DROP,
-      .course = ENDS },
+    { .name = "last_number", .says = last_number, .told = MAY_LEAVE, .maybe = MAY_INTERRUPT | MAY_STALL | MAY_DROP, .course = ENDS },
     SAYS(held_for_ever, FAZGROND_OK, 0, GOES_ON),
     SAYS(far_ahead, FAZGROND_OK, 0, GOES_ON),
     SAYS(far_behind, FAZGROND_OK, 0, GOES_ON),
     SAYS(other_state, FAZGROND_OK, MAY_DESYNC, GOES_ON),
     SAYS(state_of_the_future, FAZGROND_OK, 0, GOES_ON),
-    { .name = "another_is_gone", .says = another_is_gone,
-      .maybe = MAY_LEAVE | MAY_INTERRUPT | MAY_STALL | MAY_DESYNC | MAY_DROP | MAY_BE_CUT_OFF, .first = MAY_LEAVE,
+    { .name = "another_is_gone",
+      .says = another_is_gone,
+      .maybe = MAY_LEAVE | MAY_INTERRUPT | MAY_STALL | MAY_DESYNC | MAY_DROP | MAY_BE_CUT_OFF,
+      .first = MAY_LEAVE,
       .course = ENDS },
     SAYS(itself_is_gone, FAZGROND_OK, MAY_LEAVE, GOES_ON),
     SAYS(you_are_gone, FAZGROND_OK, MAY_DROP, GOES_ON),
     SAYS(bye_to_one, FAZGROND_OK, MAY_LEAVE, GOES_ON),
-    { .name = "byes, with a byte more", .says = byes, .spoils = byte_more, .answer = FAZGROND_NO_DATAGRAM, .told = OUT,
-      .course = GOES_ON },
+    { .name = "byes, with a byte more", .says = byes, .spoils = byte_more, .answer = FAZGROND_NO_DATAGRAM, .told = OUT, .course = GOES_ON },
     SPOILS(byte_more, FAZGROND_NO_DATAGRAM, OUT),
     SPOILS(byte_less, FAZGROND_NO_DATAGRAM, OUT),
     SPOILS(other_flag, FAZGROND_NO_DATAGRAM, OUT),
@@ -650,8 +645,8 @@ static bool lies_now(world *self, datagram *sent) {
 }
 
 static void kinds_as_text(unsigned kinds, char *out, size_t room) {
-    static const char *const names[] = { "INTERRUPTED", "LEFT", "STALLED", "MISSING", "RESTARTED", "REFUSED", "DESYNC",
-                                         "MISMATCH", "DROPPED", "CUT_OFF" };
+    static const char *const names[] = { "INTERRUPTED", "LEFT",   "STALLED",  "MISSING", "RESTARTED",
+                                         "REFUSED",     "DESYNC", "MISMATCH", "DROPPED", "CUT_OFF" };
     size_t length = 0;
     out[0] = 0;
     for (int bit = 0; bit < 10; bit++)

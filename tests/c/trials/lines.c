@@ -65,8 +65,7 @@ static void break_and_heal(uint32_t seed) {
     with.loss = seed % 3 * 10;
     with.seed = seed;
     trial_case("lines break and heal: %u machines, %u to %u ms, %u of 100 lost, held for %u turns, seed %u", (unsigned)with.machines,
-               (unsigned)with.delay, (unsigned)(with.delay + with.jitter), (unsigned)with.loss, (unsigned)with.held_turns,
-               (unsigned)seed);
+               (unsigned)with.delay, (unsigned)(with.delay + with.jitter), (unsigned)with.loss, (unsigned)with.held_turns, (unsigned)seed);
     world *self = carrying(&with);
     for (uint32_t passed = 0; passed < 30000;) {
         uint32_t time = 500 + world_draw(self, 3000);

@@ -108,11 +108,10 @@ static const struct {
     void (*run)(uint32_t count, uint32_t seed);
     uint32_t few; /* cases */
 } trials[] = {
-    { "rematches", trial_rematches, 8 }, { "restarts", trial_restarts, 1 }, { "copies", trial_copies, 2 },
-    { "clocks", trial_clocks, 1 },       { "stalls", trial_stalls, 1 },     { "standing", trial_standing, 1 },
-    { "honest", trial_honest, 8 },       { "lies", trial_lies, 1 },         { "viewers", trial_viewers, 2 },
-    { "sessions", trial_sessions, 2 },   { "guesses", trial_guesses, 1 },
-    { "habits", trial_habits, 1 },       { "lines", trial_lines, 4 },
+    { "rematches", trial_rematches, 8 }, { "restarts", trial_restarts, 1 }, { "copies", trial_copies, 2 },   { "clocks", trial_clocks, 1 },
+    { "stalls", trial_stalls, 1 },       { "standing", trial_standing, 1 }, { "honest", trial_honest, 8 },   { "lies", trial_lies, 1 },
+    { "viewers", trial_viewers, 2 },     { "sessions", trial_sessions, 2 }, { "guesses", trial_guesses, 1 }, { "habits", trial_habits, 1 },
+    { "lines", trial_lines, 4 },
 };
 
 int main(int count, char **words) {

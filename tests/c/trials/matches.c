@@ -5,10 +5,10 @@
 
 typedef struct jumps {
     const char *name;
-    int64_t by;        /* milliseconds */
-    uint32_t every;    /* so often, in milliseconds; 0: once, in the middle */
-    bool is_back;      /* each second one goes back */
-    bool is_of_all;    /* at all machines, else at the first */
+    int64_t by;     /* milliseconds */
+    uint32_t every; /* so often, in milliseconds; 0: once, in the middle */
+    bool is_back;   /* each second one goes back */
+    bool is_of_all; /* at all machines, else at the first */
 } jumps;
 
 static void let_jump(world *self, const jumps *how, uint32_t time) {
@@ -64,8 +64,7 @@ static void sleeps(uint32_t still, int64_t clock, uint32_t seed) {
     with.machines = 3;
     with.silent_after = 3000;
     with.seed = seed;
-    trial_case("a program stands still for %u ms, its clock goes on by %lld, seed %u", (unsigned)still, (long long)clock,
-               (unsigned)seed);
+    trial_case("a program stands still for %u ms, its clock goes on by %lld, seed %u", (unsigned)still, (long long)clock, (unsigned)seed);
     world *self = world_begin(&with);
     world_open_all(self);
     trial_must(world_play(self, 60, 5000), "the match begins");
@@ -154,8 +153,8 @@ static void patient(uint32_t machines, uint32_t notify_after, uint32_t seed) {
     with.silent_after = 0;
     with.notify_after = notify_after;
     with.seed = seed;
-    trial_case("one of %u is away for a minute, silent after 0, told after %u, seed %u", (unsigned)machines,
-               (unsigned)notify_after, (unsigned)seed);
+    trial_case("one of %u is away for a minute, silent after 0, told after %u, seed %u", (unsigned)machines, (unsigned)notify_after,
+               (unsigned)seed);
     world *self = world_begin(&with);
     world_open(self, 0);
     world_run(self, 30000);
@@ -198,8 +197,8 @@ static void must_be_gone_as_told(world *self, uint32_t which) {
 
 /* The machine answers, and gives no words: for so long, or for ever if it is put out for that. */
 static void stalled(uint32_t machines, uint32_t which, uint32_t stalled_after, uint32_t input_delay, uint32_t seed) {
-    trial_case("one of %u is stalled, out after %u, delay %u, seed %u", (unsigned)machines, (unsigned)stalled_after,
-               (unsigned)input_delay, (unsigned)seed);
+    trial_case("one of %u is stalled, out after %u, delay %u, seed %u", (unsigned)machines, (unsigned)stalled_after, (unsigned)input_delay,
+               (unsigned)seed);
     world *self = three_or_four(machines, stalled_after, input_delay, seed);
     uint32_t frames = self->machine[which].settled, since = world_millis(self);
     self->machine[which].is_stalled = true;
@@ -217,8 +216,8 @@ static void stalled(uint32_t machines, uint32_t which, uint32_t stalled_after, u
     world_end(self);
 }
 
-/* The last machine leaves, and so many frames later another one gives no words any more: it is put out whenever that is; but sooner or later,
- * as whoever might keep it can still be there or not. */
+/* The last machine leaves, and so many frames later another one gives no words any more: it is put out whenever that is; but sooner or
+ * later, as whoever might keep it can still be there or not. */
 static void stalled_after_another_left(uint32_t machines, uint32_t frames, uint32_t input_delay, uint32_t seed) {
     uint32_t which = seed % (machines - 1), first = which == 0 ? 1 : 0;
     trial_case("one of %u is stalled %u frames after another left, delay %u, seed %u", (unsigned)machines, (unsigned)frames,

@@ -85,9 +85,7 @@ static void begin_anew_if_left(world *self, uint32_t who) {
     world_open(self, who);
 }
 
-static bool is_played(world *self, uint32_t frames) {
-    return self->machine[0].settled >= frames && self->machine[1].settled >= frames;
-}
+static bool is_played(world *self, uint32_t frames) { return self->machine[0].settled >= frames && self->machine[1].settled >= frames; }
 
 /* Plays one match to its end. Meanwhile what is kept of those before is copied, five times a second. */
 static bool play_match(world *self, size_t kept) {
@@ -107,8 +105,8 @@ static void rematches(uint32_t delay, uint32_t jitter, uint32_t loss, bool is_co
     with.jitter = jitter;
     with.loss = loss;
     with.seed = seed;
-    trial_case("%d matches on a line of %u to %u ms that loses %u %%, seed %u%s", MATCHES, (unsigned)delay,
-               (unsigned)(delay + jitter), (unsigned)loss, (unsigned)seed, is_copied ? ", all hellos of those before copied" : "");
+    trial_case("%d matches on a line of %u to %u ms that loses %u %%, seed %u%s", MATCHES, (unsigned)delay, (unsigned)(delay + jitter),
+               (unsigned)loss, (unsigned)seed, is_copied ? ", all hellos of those before copied" : "");
     world *self = world_begin(&with);
     if (is_copied)
         proxy_begin(self, NOBODY);

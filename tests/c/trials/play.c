@@ -22,31 +22,53 @@ static const char usage[] =
 static struct {
     long machines, players, rate, seconds, seed, delay, jitter, loss, copies, silent, notify, stalled, input_delay, last, held;
     bool carries, is_idle, has_pairs, has_buttons, has_guesses;
-} self = { .machines = 2, .rate = 60, .seconds = 10, .seed = 1, .delay = 20, .silent = FAZGROND_SILENT_AFTER,
-           .notify = FAZGROND_NOTIFY_AFTER };
+} self = {
+    .machines = 2, .rate = 60, .seconds = 10, .seed = 1, .delay = 20, .silent = FAZGROND_SILENT_AFTER, .notify = FAZGROND_NOTIFY_AFTER
+};
 
 static const option options[] = {
-    { "--machines", &self.machines, NULL, NULL }, { "--players", &self.players, NULL, NULL },
-    { "--rate", &self.rate, NULL, NULL },         { "--seconds", &self.seconds, NULL, NULL },
-    { "--seed", &self.seed, NULL, NULL },         { "--delay", &self.delay, NULL, NULL },
-    { "--jitter", &self.jitter, NULL, NULL },     { "--loss", &self.loss, NULL, NULL },
-    { "--copies", &self.copies, NULL, NULL },     { "--silent", &self.silent, NULL, NULL },
-    { "--notify", &self.notify, NULL, NULL },     { "--stalled", &self.stalled, NULL, NULL },
-    { "--input-delay", &self.input_delay, NULL, NULL }, { "--last", &self.last, NULL, NULL },
-    { "--held", &self.held, NULL, NULL },         { "--carries", NULL, NULL, &self.carries },
-    { "--idle", NULL, NULL, &self.is_idle },      { "--pairs", NULL, NULL, &self.has_pairs },
-    { "--buttons", NULL, NULL, &self.has_buttons }, { "--guesses", NULL, NULL, &self.has_guesses },
+    { "--machines", &self.machines, NULL, NULL },
+    { "--players", &self.players, NULL, NULL },
+    { "--rate", &self.rate, NULL, NULL },
+    { "--seconds", &self.seconds, NULL, NULL },
+    { "--seed", &self.seed, NULL, NULL },
+    { "--delay", &self.delay, NULL, NULL },
+    { "--jitter", &self.jitter, NULL, NULL },
+    { "--loss", &self.loss, NULL, NULL },
+    { "--copies", &self.copies, NULL, NULL },
+    { "--silent", &self.silent, NULL, NULL },
+    { "--notify", &self.notify, NULL, NULL },
+    { "--stalled", &self.stalled, NULL, NULL },
+    { "--input-delay", &self.input_delay, NULL, NULL },
+    { "--last", &self.last, NULL, NULL },
+    { "--held", &self.held, NULL, NULL },
+    { "--carries", NULL, NULL, &self.carries },
+    { "--idle", NULL, NULL, &self.is_idle },
+    { "--pairs", NULL, NULL, &self.has_pairs },
+    { "--buttons", NULL, NULL, &self.has_buttons },
+    { "--guesses", NULL, NULL, &self.has_guesses },
     { NULL, NULL, NULL, NULL },
 };
 
 static setup setup_of(void) {
-    return (setup){ .machines = (uint32_t)self.machines, .players = (uint32_t)self.players, .rate = (uint32_t)self.rate,
-                    .delay = (uint32_t)self.delay, .jitter = (uint32_t)self.jitter, .loss = (uint32_t)self.loss,
-                    .copies = (uint32_t)self.copies, .silent_after = (uint32_t)self.silent,
-                    .notify_after = (uint32_t)self.notify, .stalled_after = (uint32_t)self.stalled,
-                    .input_delay = (uint32_t)self.input_delay, .last_frame = (uint32_t)self.last,
-                    .held_turns = (uint32_t)self.held, .carries = self.carries, .has_pair_numbers = self.has_pairs, .is_idle = self.is_idle,
-                    .is_button = self.has_buttons, .seed = (uint64_t)self.seed };
+    return (setup){ .machines = (uint32_t)self.machines,
+                    .players = (uint32_t)self.players,
+                    .rate = (uint32_t)self.rate,
+                    .delay = (uint32_t)self.delay,
+                    .jitter = (uint32_t)self.jitter,
+                    .loss = (uint32_t)self.loss,
+                    .copies = (uint32_t)self.copies,
+                    .silent_after = (uint32_t)self.silent,
+                    .notify_after = (uint32_t)self.notify,
+                    .stalled_after = (uint32_t)self.stalled,
+                    .input_delay = (uint32_t)self.input_delay,
+                    .last_frame = (uint32_t)self.last,
+                    .held_turns = (uint32_t)self.held,
+                    .carries = self.carries,
+                    .has_pair_numbers = self.has_pairs,
+                    .is_idle = self.is_idle,
+                    .is_button = self.has_buttons,
+                    .seed = (uint64_t)self.seed };
 }
 
 /* Does to a machine what a fault says. False if there is no such fault. */
@@ -101,8 +123,7 @@ static void print_machines(world *all) {
         const machine *at = &all->machine[who];
         if (at->is_open)
             printf("machine %u: frame %u settled %u state %016llx log %zu, %u rollbacks, %u frames run again\n", who, at->frame,
-                   at->settled, (unsigned long long)at->history[at->settled], world_log(all, who), at->rolled_back,
-                   at->steps - at->frame);
+                   at->settled, (unsigned long long)at->history[at->settled], world_log(all, who), at->rolled_back, at->steps - at->frame);
     }
     if (all->wrong != NULL)
         printf("wrong: %s\n", all->wrong);

@@ -186,8 +186,7 @@ static look look_at(world *self, fazgrond_session *session) {
 static datagram next_of_the_other(world *self) {
     datagram made = { .from = 1 };
     machine *other = &self->machine[1];
-    int32_t code = fazgrond_peer_send(&other->peer, &other->session, 0, world_clock(self, 1), made.bytes, FAZGROND_DATAGRAM,
-                                      &made.length);
+    int32_t code = fazgrond_peer_send(&other->peer, &other->session, 0, world_clock(self, 1), made.bytes, FAZGROND_DATAGRAM, &made.length);
     trial_must(code == FAZGROND_OK, "the other machine sends");
     return made;
 }
@@ -241,8 +240,8 @@ static void is_another(size_t which, uint32_t seed) {
         others[which].make(self, &made);
     must_answer(self, &made, &come, others[which].answer);
     fazgrond_close(&made);
-    trial_must(fazgrond_peer_receive(&self->machine[0].peer, &self->machine[0].session, come.bytes, come.length,
-                                     world_clock(self, 0)) == FAZGROND_OK,
+    trial_must(fazgrond_peer_receive(&self->machine[0].peer, &self->machine[0].session, come.bytes, come.length, world_clock(self, 0))
+                   == FAZGROND_OK,
                "with the right one it is heard");
     must_go_on(self);
 }

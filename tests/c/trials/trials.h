@@ -20,8 +20,16 @@ void trial_must_of(bool is_so, uint32_t who, const char *what);
 /* Nothing is wrong with the games, and no machine that plays was told of any event but these kinds, by their bits: those of
  * FAZGROND_SYNCHRONIZING to FAZGROND_RUNNING and FAZGROND_TIME_SYNC are always allowed. */
 enum {
-    MAY_INTERRUPT = 1, MAY_LEAVE = 2, MAY_STALL = 4, MAY_MISS = 8, MAY_RESTART = 16, MAY_REFUSE = 32, MAY_DESYNC = 64,
-    MAY_MISMATCH = 128, MAY_DROP = 256, MAY_BE_CUT_OFF = 512
+    MAY_INTERRUPT = 1,
+    MAY_LEAVE = 2,
+    MAY_STALL = 4,
+    MAY_MISS = 8,
+    MAY_RESTART = 16,
+    MAY_REFUSE = 32,
+    MAY_DESYNC = 64,
+    MAY_MISMATCH = 128,
+    MAY_DROP = 256,
+    MAY_BE_CUT_OFF = 512
 };
 void trial_nothing_but(const world *self, unsigned allowed);
 

@@ -22,8 +22,8 @@ typedef struct scene {
     uint64_t draws;
     posted *way;
     size_t on_way;
-    uint32_t rows;   /* that were taken from the viewer */
-    uint64_t state;  /* of its game */
+    uint32_t rows;                    /* that were taken from the viewer */
+    uint64_t state;                   /* of its game */
     int64_t viewer_ahead, host_ahead; /* their clocks, of the match's */
     bool is_viewer_dead, is_host_dead, is_kept;
     posted *kept; /* what the viewer sent, to be copied */
@@ -143,7 +143,8 @@ static void scene_run(scene *self, uint32_t milliseconds) {
         sent.to_viewer = true;
         if (!self->is_host_dead
             && fazgrond_line_send(&self->line, &self->match->machine[0].session, host_clock(self), sent.bytes, sizeof sent.bytes,
-                                  &sent.length) == FAZGROND_OK)
+                                  &sent.length)
+                == FAZGROND_OK)
             post(self, &sent);
         take_rows(self);
         sent.to_viewer = false;

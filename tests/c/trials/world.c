@@ -5,8 +5,9 @@
 
 enum { MOST_AT_ONCE = 256, BYES = 3, REQUESTS = 16 };
 
-const setup plain = { .machines = 2, .rate = 60, .delay = 20, .silent_after = FAZGROND_SILENT_AFTER,
-                      .notify_after = FAZGROND_NOTIFY_AFTER, .seed = 1 };
+const setup plain = {
+    .machines = 2, .rate = 60, .delay = 20, .silent_after = FAZGROND_SILENT_AFTER, .notify_after = FAZGROND_NOTIFY_AFTER, .seed = 1
+};
 
 static world the_world;
 
@@ -23,9 +24,7 @@ uint32_t world_draw(world *self, uint32_t below) { return (uint32_t)((next_rando
 
 uint32_t world_millis(const world *self) { return (uint32_t)(self->now / 1000); }
 
-uint32_t world_clock(const world *self, uint32_t who) {
-    return (uint32_t)((int64_t)(self->now / 1000) + self->machine[who].clock_ahead);
-}
+uint32_t world_clock(const world *self, uint32_t who) { return (uint32_t)((int64_t)(self->now / 1000) + self->machine[who].clock_ahead); }
 
 /* ---- The network: a heap of what is on its way. */
 
@@ -224,8 +223,7 @@ static void empty(machine *at) {
 void world_open_session(world *self, uint32_t who) {
     machine *at = &self->machine[who];
     fazgrond_settings settings = world_settings(self, who);
-    if (fazgrond_open(&at->session, &settings) != FAZGROND_OK
-        || fazgrond_limit_slots(&at->session, world_slots(self)) != FAZGROND_OK)
+    if (fazgrond_open(&at->session, &settings) != FAZGROND_OK || fazgrond_limit_slots(&at->session, world_slots(self)) != FAZGROND_OK)
         is_wrong(self, "a session doesn't open");
     memset(at->is_taken, 0, sizeof at->is_taken);
     at->is_taken[0] = true;
@@ -422,8 +420,7 @@ world *world_begin(const setup *with) {
     self->random = 0x9e3779b97f4a7c15u * (2 * with->seed + 1);
     for (uint32_t one = 0; one < MACHINES; one++)
         for (uint32_t other = 0; other <= one; other++)
-            self->numbers[one][other] = self->numbers[other][one]
-                = with->has_pair_numbers ? next_random(self) : 0x5eed5eed5eed5eed;
+            self->numbers[one][other] = self->numbers[other][one] = with->has_pair_numbers ? next_random(self) : 0x5eed5eed5eed5eed;
     self->now = 1000000;
     for (uint32_t who = 0; who < MACHINES; who++)
         self->machine[who].clock_ahead = world_draw(self, 1 << 30);
@@ -485,7 +482,8 @@ void world_stand_still(world *self, uint32_t who, uint32_t milliseconds) {
 
 void world_run(world *self, uint32_t milliseconds) {
     uint64_t until = self->now + 1000u * (uint64_t)milliseconds;
-    while (step(self, until)) {}
+    while (step(self, until)) {
+    }
     self->now = until;
 }
 
@@ -524,9 +522,7 @@ static told first_told(const world *self, uint32_t who, uint32_t code, uint32_t 
     return (told){ 0 };
 }
 
-uint32_t world_told_at(const world *self, uint32_t who, uint32_t code, uint32_t of) {
-    return (uint32_t)first_told(self, who, code, of).at;
-}
+uint32_t world_told_at(const world *self, uint32_t who, uint32_t code, uint32_t of) { return (uint32_t)first_told(self, who, code, of).at; }
 
 uint32_t world_gone_in(const world *self, uint32_t who, uint32_t code, uint32_t of) {
     return first_told(self, who, code, of).event.disconnect_in;
@@ -556,10 +552,9 @@ size_t world_log(world *self, uint32_t who) {
 }
 
 const char *world_name(uint32_t code) {
-    static const char *const ggpo[] = { "SYNCHRONIZING", "SYNCHRONIZED", "RUNNING", "DISCONNECTED", "TIME_SYNC", "INTERRUPTED",
-                                        "RESUMED" };
-    static const char *const own[] = { "LEFT", "DESYNC", "MISMATCH", "DROPPED", "RESTARTED", "STALLED", "REFUSED", "MISSING",
-                                       "CUT_OFF", "STRANGERS" };
+    static const char *const ggpo[] = { "SYNCHRONIZING", "SYNCHRONIZED", "RUNNING", "DISCONNECTED", "TIME_SYNC", "INTERRUPTED", "RESUMED" };
+    static const char *const own[] = { "LEFT",    "DESYNC",  "MISMATCH", "DROPPED", "RESTARTED",
+                                       "STALLED", "REFUSED", "MISSING",  "CUT_OFF", "STRANGERS" };
     if (code >= FAZGROND_SYNCHRONIZING && code <= FAZGROND_RESUMED)
         return ggpo[code - FAZGROND_SYNCHRONIZING];
     return code >= FAZGROND_LEFT && code <= FAZGROND_STRANGERS ? own[code - FAZGROND_LEFT] : "an event that isn't known";

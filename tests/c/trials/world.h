@@ -18,16 +18,16 @@ typedef struct setup {
     uint32_t delay, jitter; /* milliseconds one way: at least so many, and so many more at most */
     uint32_t loss, copies;  /* of a hundred datagrams: how many are lost, and how many come twice */
     uint32_t silent_after, notify_after, stalled_after;
-    uint32_t silent_first;  /* machine 0 has this time in the place of silent_after, if it isn't 0 */
-    uint32_t input_delay;   /* frames by which all words count later */
-    uint32_t slots;         /* room for so many states; 0: for more than are ever needed */
-    uint32_t last_frame;    /* nobody gives words from this frame on; 0: no such frame */
-    uint32_t held_turns;    /* for how many turns others' words wait beside the sessions */
-    bool carries;           /* machines hand on what others send each other whose line is broken */
-    bool has_pair_numbers;  /* each two machines have a number of their own */
-    bool is_idle;           /* all words are 0 */
-    bool is_button;         /* or 0 and 1: a button that is held or not */
-    bool last_waits;        /* the last machine puts nobody out for giving no words */
+    uint32_t silent_first; /* machine 0 has this time in the place of silent_after, if it isn't 0 */
+    uint32_t input_delay;  /* frames by which all words count later */
+    uint32_t slots;        /* room for so many states; 0: for more than are ever needed */
+    uint32_t last_frame;   /* nobody gives words from this frame on; 0: no such frame */
+    uint32_t held_turns;   /* for how many turns others' words wait beside the sessions */
+    bool carries;          /* machines hand on what others send each other whose line is broken */
+    bool has_pair_numbers; /* each two machines have a number of their own */
+    bool is_idle;          /* all words are 0 */
+    bool is_button;        /* or 0 and 1: a button that is held or not */
+    bool last_waits;       /* the last machine puts nobody out for giving no words */
     uint64_t seed;
 } setup;
 
@@ -101,7 +101,7 @@ struct world {
     in_turn *after_turn;
     told told[MOST_TOLD];
     size_t events;
-    FILE *out; /* where all that is told is printed, if it isn't null */
+    FILE *out;         /* where all that is told is printed, if it isn't null */
     const char *wrong; /* what went wrong with a game: null if nothing */
 };
 

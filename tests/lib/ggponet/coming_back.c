@@ -34,7 +34,7 @@ static struct program {
     state now;
     unsigned at[MOST]; /* the number at each frame, as it was played last */
     int sent, buffers, is_running, epochs, came, missing, strangers, left, gone;
-    int inputs; /* that were taken */
+    int inputs;   /* that were taken */
     bool is_cut;  /* what it sends is lost */
     bool is_over; /* the match is, for this machine */
     GGPOSession *session;
@@ -147,8 +147,9 @@ static bool on_event(GGPOEvent *info) {
     return true;
 }
 
-static GGPOSessionCallbacks calls = { .save_game_state = on_save, .load_game_state = on_load, .free_buffer = on_free,
-                                      .advance_frame = on_advance, .on_event = on_event };
+static GGPOSessionCallbacks calls = {
+    .save_game_state = on_save, .load_game_state = on_load, .free_buffer = on_free, .advance_frame = on_advance, .on_event = on_event
+};
 
 /* ---- programs */
 
@@ -159,7 +160,8 @@ static void start(int me) {
     MUST(ggpo_start_session(&game->session, &calls, "coming back", machines, 1, 0) == GGPO_OK);
     MUST(fazggpo_set_wire(game->session, &wire) == GGPO_OK && ggpo_set_disconnect_timeout(game->session, TIMEOUT) == GGPO_OK);
     for (int player = 0; player < machines; player++) {
-        GGPOPlayer added = { .size = sizeof added, .type = player == me ? GGPO_PLAYERTYPE_LOCAL : GGPO_PLAYERTYPE_REMOTE,
+        GGPOPlayer added = { .size = sizeof added,
+                             .type = player == me ? GGPO_PLAYERTYPE_LOCAL : GGPO_PLAYERTYPE_REMOTE,
                              .player_num = player + 1 };
         GGPOPlayerHandle handle;
         memcpy(added.u.remote.ip_address, "240.0.0.1", sizeof "240.0.0.1");

@@ -33,9 +33,7 @@ static struct {
 } helped;
 
 /* Each player presses a button and lets it go, each in its own time. */
-static unsigned char input_of(int player, int frame) {
-    return player == 0 ? frame % 10 < 4 ? 5 : 6 : frame % 12 < 7 ? 3 : 8;
-}
+static unsigned char input_of(int player, int frame) { return player == 0 ? frame % 10 < 4 ? 5 : 6 : frame % 12 < 7 ? 3 : 8; }
 
 static void step(state *of, const unsigned char *inputs) {
     of->number = of->number * 31 + inputs[0] + 2u * inputs[1];
@@ -101,8 +99,9 @@ static bool helper_save(void *helper, unsigned char **buffer, int *len, int *che
 }
 
 static void begin(int me, int port) {
-    GGPOSessionCallbacks calls = { .save_game_state = on_save, .load_game_state = on_load, .free_buffer = on_free,
-                                   .advance_frame = on_advance, .on_event = on_event };
+    GGPOSessionCallbacks calls = {
+        .save_game_state = on_save, .load_game_state = on_load, .free_buffer = on_free, .advance_frame = on_advance, .on_event = on_event
+    };
     GGPOPlayerHandle handle;
     game = &games[me];
     memset(game, 0, sizeof *game);
@@ -127,15 +126,16 @@ static void turn(int me) {
     if (code == GGPO_OK) {
         MUST(ggpo_synchronize_input(game->session, inputs, sizeof inputs, NULL) == GGPO_OK);
         step(&game->now, inputs);
-            MUST(ggpo_advance_frame(game->session) == GGPO_OK);
+        MUST(ggpo_advance_frame(game->session) == GGPO_OK);
     }
     MUST(ggpo_idle(game->session, TURN) == GGPO_OK);
 }
 
 /* The helper runs all jobs of a session that are there. A session isn't closed while it is at work. */
 static void help(int me) {
-    const FazggpoHelper helper = { .helper = &helped, .load_state = helper_load, .advance_state = helper_advance,
-                                   .save_state = helper_save };
+    const FazggpoHelper helper = {
+        .helper = &helped, .load_state = helper_load, .advance_state = helper_advance, .save_state = helper_save
+    };
     FazggpoJob *job;
     game = &games[me];
     while ((job = fazggpo_fetch_job(game->session, 0)) != NULL) {

@@ -96,8 +96,9 @@ static bool on_event(GGPOEvent *info) {
 }
 
 static void begin(int me, int port) {
-    GGPOSessionCallbacks calls = { .save_game_state = on_save, .load_game_state = on_load, .free_buffer = on_free,
-                                   .advance_frame = on_advance, .on_event = on_event };
+    GGPOSessionCallbacks calls = {
+        .save_game_state = on_save, .load_game_state = on_load, .free_buffer = on_free, .advance_frame = on_advance, .on_event = on_event
+    };
     GGPOPlayerHandle handle;
     game = &games[me];
     memset(game, 0, sizeof *game);

@@ -55,9 +55,7 @@ static bool __cdecl on_load(unsigned char *buffer, int len) {
     return true;
 }
 
-static bool __cdecl on_log(char *filename, unsigned char *buffer, int len) {
-    return filename != NULL && buffer != NULL && len > 0;
-}
+static bool __cdecl on_log(char *filename, unsigned char *buffer, int len) { return filename != NULL && buffer != NULL && len > 0; }
 
 static void __cdecl on_free(void *buffer) { (void)buffer; }
 

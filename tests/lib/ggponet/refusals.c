@@ -76,8 +76,12 @@ static bool on_event(GGPOEvent *info) {
     return true;
 }
 
-static GGPOSessionCallbacks calls = { .save_game_state = on_save, .load_game_state = on_load, .log_game_state = on_log,
-                                      .free_buffer = on_free,     .advance_frame = on_advance, .on_event = on_event };
+static GGPOSessionCallbacks calls = { .save_game_state = on_save,
+                                      .load_game_state = on_load,
+                                      .log_game_state = on_log,
+                                      .free_buffer = on_free,
+                                      .advance_frame = on_advance,
+                                      .on_event = on_event };
 static char name[] = "refusals";
 
 /* Plays so many frames of a sync test, and says after how many it was refused. */

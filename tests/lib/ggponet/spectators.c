@@ -82,8 +82,9 @@ static bool on_event(GGPOEvent *info) {
     return true;
 }
 
-static GGPOSessionCallbacks calls = { .save_game_state = on_save, .load_game_state = on_load, .free_buffer = on_free,
-                                      .advance_frame = on_advance, .on_event = on_event };
+static GGPOSessionCallbacks calls = {
+    .save_game_state = on_save, .load_game_state = on_load, .free_buffer = on_free, .advance_frame = on_advance, .on_event = on_event
+};
 
 static void set_up(void) {
     MUST(fazggpo_set_speed(game->session, speed) == GGPO_OK);
@@ -119,7 +120,8 @@ static void begin_viewer(int me, uint64_t number, int input_size) {
     char host[] = "127.0.0.1";
     game = &games[me];
     MUST(ggpo_start_spectating(&game->session, &calls, "spectators", 2, input_size, (unsigned short)(port + me), host,
-                               (unsigned short)(port + HOST)) == GGPO_OK);
+                               (unsigned short)(port + HOST))
+         == GGPO_OK);
     set_up();
     MUST(fazggpo_set_spectators(game->session, number) == GGPO_OK);
 }

@@ -107,8 +107,9 @@ typedef struct terms {
 static const terms plain = { 1, 2, 1, false, 5 };
 
 static void begin_with(int me, int port, const terms *of) {
-    GGPOSessionCallbacks calls = { .save_game_state = on_save, .load_game_state = on_load, .free_buffer = on_free,
-                                   .advance_frame = on_advance, .on_event = on_event };
+    GGPOSessionCallbacks calls = {
+        .save_game_state = on_save, .load_game_state = on_load, .free_buffer = on_free, .advance_frame = on_advance, .on_event = on_event
+    };
     GGPOPlayerHandle handle;
     game = &games[me];
     memset(game, 0, sizeof *game);
@@ -318,8 +319,9 @@ static void input_twice(int port) {
 static void own_address(int port) {
     GGPOPlayerHandle handle;
     GGPOPlayer added = { .size = sizeof added, .type = GGPO_PLAYERTYPE_REMOTE, .player_num = 3 };
-    GGPOSessionCallbacks calls = { .save_game_state = on_save, .load_game_state = on_load, .free_buffer = on_free,
-                                   .advance_frame = on_advance, .on_event = on_event };
+    GGPOSessionCallbacks calls = {
+        .save_game_state = on_save, .load_game_state = on_load, .free_buffer = on_free, .advance_frame = on_advance, .on_event = on_event
+    };
     game = &games[0];
     MUST(ggpo_start_session(&game->session, &calls, "own address", 3, 1, (unsigned short)port) == GGPO_OK);
     for (int player = 3; player >= 1; player--) {

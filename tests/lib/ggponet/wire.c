@@ -9,8 +9,21 @@
 #include <stdlib.h>
 #include <string.h>
 
-enum { PLAYERS = 4, MACHINES = 3, VIEWER = MACHINES, ALL, FRAMES = 400, MOST = 5000, WAITING = 512, LOST = 20, TWICE = 10,
-       LATE = 12, JOBS = 4, HELD = 12, ROWS = 8 };
+enum {
+    PLAYERS = 4,
+    MACHINES = 3,
+    VIEWER = MACHINES,
+    ALL,
+    FRAMES = 400,
+    MOST = 5000,
+    WAITING = 512,
+    LOST = 20,
+    TWICE = 10,
+    LATE = 12,
+    JOBS = 4,
+    HELD = 12,
+    ROWS = 8
+};
 
 /* Where each player sits. */
 static const int home[PLAYERS] = { 0, 1, 0, 2 };
@@ -91,8 +104,7 @@ static GGPOPlayerHandle name_of(int me, int machine) {
 static void put(int from, int to, const unsigned char *bytes, int length) {
     for (int at = 0; at < WAITING; at++)
         if (list[at].to < 0) {
-            list[at] = (datagram){ .from = from, .to = to, .wait = (int)draw(LATE), .length = length,
-                                    .order = sent };
+            list[at] = (datagram){ .from = from, .to = to, .wait = (int)draw(LATE), .length = length, .order = sent };
             memcpy(list[at].bytes, bytes, (size_t)length);
             return;
         }
@@ -235,8 +247,9 @@ static bool helper_save(void *helper, unsigned char **buffer, int *len, int *che
 }
 
 static void run(FazggpoJob *job) {
-    const FazggpoHelper helper = { .helper = &helped, .load_state = helper_load, .advance_state = helper_advance,
-                                   .save_state = helper_save };
+    const FazggpoHelper helper = {
+        .helper = &helped, .load_state = helper_load, .advance_state = helper_advance, .save_state = helper_save
+    };
     MUST(fazggpo_run_job(job, &helper));
 }
 
@@ -260,8 +273,9 @@ static void help(void) {
         }
 }
 
-static GGPOSessionCallbacks calls = { .save_game_state = on_save, .load_game_state = on_load, .free_buffer = on_free,
-                                      .advance_frame = on_advance, .on_event = on_event };
+static GGPOSessionCallbacks calls = {
+    .save_game_state = on_save, .load_game_state = on_load, .free_buffer = on_free, .advance_frame = on_advance, .on_event = on_event
+};
 static char name[] = "wire";
 static int port;
 static int speed = 100, turn_time = 16; /* of the clock, and in its milliseconds */
@@ -312,7 +326,8 @@ static void add_players(int me, const way *by) {
 static void begin(int me, const way *by) {
     game = &games[me];
     memset(game, 0, sizeof *game);
-    MUST(ggpo_start_session(&game->session, &calls, name, PLAYERS, sizeof(short), (unsigned short)(by->by_wire ? 0 : port + me)) == GGPO_OK);
+    MUST(ggpo_start_session(&game->session, &calls, name, PLAYERS, sizeof(short), (unsigned short)(by->by_wire ? 0 : port + me))
+         == GGPO_OK);
     set_up(by);
     add_players(me, by);
     if (me != 0 || by->can_rejoin)
@@ -327,7 +342,8 @@ static void begin_viewer(const way *by) {
     game = &games[VIEWER];
     memset(game, 0, sizeof *game);
     MUST(ggpo_start_spectating(&game->session, &calls, name, PLAYERS, sizeof(short), (unsigned short)(needs_port ? port + VIEWER : 0),
-                               address_by(by), (unsigned short)port) == GGPO_OK);
+                               address_by(by), (unsigned short)port)
+         == GGPO_OK);
     set_up(by);
     MUST(!by->has_numbers || fazggpo_set_number(game->session, 0, number_of(0, VIEWER)) == GGPO_OK);
 }
@@ -520,8 +536,10 @@ static void refused_numbers(void) {
 
 /* A wire that says what can't be: of nobody, of this machine, or longer than the room. */
 static bool receive_wrong(void *wire, GGPOPlayerHandle *from, unsigned char *bytes, int room, int *length) {
-    static const struct { GGPOPlayerHandle from; int length; } wrong[] = { { -1, 20 }, { 0, 20 }, { 2, 20 }, { 5, 20 }, { 999, 20 },
-        { 1000, 20 }, { 1, -1 }, { 1, 1 << 20 } };
+    static const struct {
+        GGPOPlayerHandle from;
+        int length;
+    } wrong[] = { { -1, 20 }, { 0, 20 }, { 2, 20 }, { 5, 20 }, { 999, 20 }, { 1000, 20 }, { 1, -1 }, { 1, 1 << 20 } };
     size_t *next = wire;
     MUST(room >= 20);
     memset(bytes, 1, 20);

@@ -162,8 +162,9 @@ static bool on_event(GGPOEvent *info) {
     return true;
 }
 
-static GGPOSessionCallbacks calls = { .save_game_state = on_save, .load_game_state = on_load, .free_buffer = on_free,
-                                      .advance_frame = on_advance, .on_event = on_event };
+static GGPOSessionCallbacks calls = {
+    .save_game_state = on_save, .load_game_state = on_load, .free_buffer = on_free, .advance_frame = on_advance, .on_event = on_event
+};
 static char name[] = "lines", nowhere[] = "240.0.0.1";
 
 /* It loses a tenth of what it sends, and keeps the rest for a while. */

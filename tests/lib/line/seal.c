@@ -37,13 +37,13 @@ static void of_pairs(void) {
     CHECK_IS(one.number == three.number, false);
     CHECK_IS(memcmp(one.ours, two.theirs, SEAL_KEY), 0);
     CHECK_IS(memcmp(one.ours, two.ours, SEAL_KEY) == 0, false);
-    uint8_t zero[SEAL_KEY] = {0}, open[SEAL_KEY], secret[SEAL_KEY];
+    uint8_t zero[SEAL_KEY] = { 0 }, open[SEAL_KEY], secret[SEAL_KEY];
     faz_line_seal_draw(open, secret);
     CHECK_IS(faz_line_seal_open(&four, true, open, secret, zero), false);
 }
 
 static void as_another_does(const char *key, const char *counter, const char *text, const char *sealed) {
-    seal one = {0};
+    seal one = { 0 };
     uint8_t out[64];
     char hex[129];
     sodium_hex2bin(one.ours, SEAL_KEY, key, strlen(key), NULL, NULL, NULL);
@@ -86,7 +86,7 @@ static void of_orders(void) {
     static int order[3 * MANY];
     seal one, two;
     uint8_t out[ROOM];
-    int came[MANY] = {0}, taken = 0;
+    int came[MANY] = { 0 }, taken = 0;
     open_two(&one, &two);
     for (uint32_t n = 0; n < MANY; n++)
         CHECK_IS(faz_line_seal_put(&one, sealed[n], (const uint8_t *)&n, sizeof n), 28);
@@ -144,7 +144,7 @@ static double micros(void) {
 
 static void costs(size_t length) {
     enum { MANY = 4000, ROOM = 1200 + SEAL_OVERHEAD };
-    uint8_t *sealed = malloc(MANY * ROOM), bytes[1200] = {0}, out[1200];
+    uint8_t *sealed = malloc(MANY * ROOM), bytes[1200] = { 0 }, out[1200];
     seal one, two;
     open_two(&one, &two);
     double begun = micros();

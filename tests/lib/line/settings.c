@@ -43,7 +43,7 @@ static void waits(void) {
     faz_line_keys keys, other;
     const char *why;
     CHECK(faz_line_draw(&keys) && faz_line_draw(&other));
-    faz_line *line = faz_line_open(&(faz_line_settings){.me = 1, .other = 0, .keys = &keys, .their = other.open}, &why);
+    faz_line *line = faz_line_open(&(faz_line_settings){ .me = 1, .other = 0, .keys = &keys, .their = other.open }, &why);
     faz_line_state state = after(line, 0, 60000, false);
     CHECK(state.stage == FAZ_LINE_LOOKING && state.generation == 1 && state.silence == 0 && state.sent == 0);
     state = after(line, 60000, 61900, true);
@@ -59,7 +59,7 @@ static void waits(void) {
 static void hides(void) {
     faz_line_keys keys, other;
     CHECK(faz_line_draw(&keys) && faz_line_draw(&other));
-    CHECK(opens(&(faz_line_settings){.other = 1, .keys = &keys, .their = other.open, .relay_only = true}) == HAS_RELAYS);
+    CHECK(opens(&(faz_line_settings){ .other = 1, .keys = &keys, .their = other.open, .relay_only = true }) == HAS_RELAYS);
 }
 
 static void turn_both(faz_line *const lines[2], uint32_t now) {
@@ -70,7 +70,7 @@ static void turn_both(faz_line *const lines[2], uint32_t now) {
         while (faz_line_signal(lines[at], bytes, sizeof bytes, &length))
             CHECK(faz_line_signalled(lines[1 - at], bytes, length));
     }
-    nanosleep(&(struct timespec){.tv_nsec = 1000000}, NULL);
+    nanosleep(&(struct timespec){ .tv_nsec = 1000000 }, NULL);
 }
 
 static bool is_up(const faz_line *line) {
@@ -81,7 +81,7 @@ static bool is_up(const faz_line *line) {
 
 /* What a process that was forked does with a line: it ends with 0 if that is closed. */
 static void use_forked(faz_line *line, uint32_t now) {
-    uint8_t bytes[FAZGROND_DATAGRAM] = {7};
+    uint8_t bytes[FAZGROND_DATAGRAM] = { 7 };
     faz_line_state state;
     bool is_closed = !faz_line_send(line, bytes, 10);
     for (uint32_t later = now; later < now + 2000; later += 100)
@@ -101,14 +101,14 @@ static void open_both(faz_line *lines[2]) {
         memcpy(theirs[1 - at], keys[at].open, FAZ_LINE_KEY);
     }
     for (uint32_t at = 0; at < 2; at++) {
-        lines[at] = faz_line_open(&(faz_line_settings){.me = at, .other = 1 - at, .keys = &keys[at], .their = theirs[at]}, &why);
+        lines[at] = faz_line_open(&(faz_line_settings){ .me = at, .other = 1 - at, .keys = &keys[at], .their = theirs[at] }, &why);
         CHECK(lines[at] != NULL);
     }
 }
 
 /* A process that was forked sends nothing by the line that it has, and takes nothing from it: the other one goes on. */
 static void forks(void) {
-    uint8_t bytes[FAZGROND_DATAGRAM] = {0};
+    uint8_t bytes[FAZGROND_DATAGRAM] = { 0 };
     faz_line *lines[2];
     faz_line_state state;
     uint32_t now = 0;
@@ -134,16 +134,16 @@ static void forks(void) {
 }
 
 int main(void) {
-    faz_line_keys keys, other, none = {{0}, {0}};
+    faz_line_keys keys, other, none = { { 0 }, { 0 } };
     char longer[300];
-    uint8_t bytes[FAZGROND_DATAGRAM + 1] = {0};
+    uint8_t bytes[FAZGROND_DATAGRAM + 1] = { 0 };
     size_t length;
     memset(longer, 'x', sizeof longer - 1);
     longer[sizeof longer - 1] = 0;
     CHECK(faz_line_draw(&keys));
     CHECK(faz_line_draw(&other));
     CHECK(memcmp(keys.open, other.open, FAZ_LINE_KEY) != 0);
-    const faz_line_settings good = {.me = 0, .other = 1, .keys = &keys, .their = other.open};
+    const faz_line_settings good = { .me = 0, .other = 1, .keys = &keys, .their = other.open };
     faz_line_settings bad = good;
     bad.keys = NULL, CHECK(!opens(&bad)), bad = good;
     bad.their = NULL, CHECK(!opens(&bad)), bad = good;
@@ -153,7 +153,7 @@ int main(void) {
     bad.stun = longer, CHECK(!opens(&bad)), bad = good;
     bad.relay_count = FAZ_LINE_RELAYS + 1, CHECK(!opens(&bad)), bad = good;
     bad.relay_count = 1, CHECK(!opens(&bad));
-    bad.relays[0] = (faz_line_relay){"203.0.113.10", 3478, longer, "b", false}, CHECK(!opens(&bad)), bad = good;
+    bad.relays[0] = (faz_line_relay){ "203.0.113.10", 3478, longer, "b", false }, CHECK(!opens(&bad)), bad = good;
     CHECK(memcmp(keys.secret, none.secret, FAZ_LINE_KEY) != 0); /* nothing of that took the keys */
 
     CHECK(opens(&good));

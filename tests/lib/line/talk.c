@@ -57,13 +57,9 @@ static uint64_t micros_of(clockid_t clock) {
     return (uint64_t)now.tv_sec * 1000000 + (uint64_t)now.tv_nsec / 1000;
 }
 
-static uint64_t micros(void) {
-    return micros_of(CLOCK_MONOTONIC);
-}
+static uint64_t micros(void) { return micros_of(CLOCK_MONOTONIC); }
 
-static void pause_a_little(void) {
-    nanosleep(&(struct timespec){.tv_nsec = 1000000}, NULL);
-}
+static void pause_a_little(void) { nanosleep(&(struct timespec){ .tv_nsec = 1000000 }, NULL); }
 
 static _Noreturn void fail(const char *what) {
     printf("failed: %s\n", what);
@@ -176,7 +172,7 @@ static void take(talk *self, const uint8_t *bytes, size_t length) {
 }
 
 static void send_due(talk *self, uint64_t now, bool has_ended) {
-    uint8_t bytes[FAZGROND_DATAGRAM] = {0};
+    uint8_t bytes[FAZGROND_DATAGRAM] = { 0 };
     for (; self->next <= now; self->next += PERIOD) {
         if (has_ended)
             continue;
@@ -191,8 +187,8 @@ static void send_due(talk *self, uint64_t now, bool has_ended) {
     }
 }
 
-static const char *const WAYS[] = {"none", "lan", "direct", "relay"};
-static const char *const STAGES[] = {"looking", "up", "silent", "blocked"};
+static const char *const WAYS[] = { "none", "lan", "direct", "relay" };
+static const char *const STAGES[] = { "looking", "up", "silent", "blocked" };
 
 static void say_changes(talk *self, uint64_t now) {
     faz_line_state state;
@@ -257,9 +253,14 @@ static void play(talk *self) {
 }
 
 static void read_options(talk *self, int argc, char **argv) {
-    const struct { const char *name; long *to; } numbers[] = {
-        {"--seconds", &self->seconds}, {"--within", &self->within}, {"--carried", &self->carried}, {"--lost", &self->lost},
-        {"--size", &self->size}};
+    const struct {
+        const char *name;
+        long *to;
+    } numbers[] = { { "--seconds", &self->seconds },
+                    { "--within", &self->within },
+                    { "--carried", &self->carried },
+                    { "--lost", &self->lost },
+                    { "--size", &self->size } };
     for (int at = 4; at < argc; at++) {
         bool is_number = false;
         for (size_t n = 0; n < sizeof numbers / sizeof *numbers && at + 1 < argc; n++)
@@ -276,11 +277,11 @@ static void read_options(talk *self, int argc, char **argv) {
         } else if ((strcmp(argv[at], "--relay") == 0 || strcmp(argv[at], "--tcp-relay") == 0) && at + 4 < argc
                    && self->settings.relay_count < FAZ_LINE_RELAYS) {
             faz_line_relay *relay = &self->settings.relays[self->settings.relay_count++];
-            *relay = (faz_line_relay){argv[at + 1], (uint16_t)atoi(argv[at + 2]), argv[at + 3], argv[at + 4], argv[at][2] == 't'};
+            *relay = (faz_line_relay){ argv[at + 1], (uint16_t)atoi(argv[at + 2]), argv[at + 3], argv[at + 4], argv[at][2] == 't' };
             at += 4;
         } else if (strcmp(argv[at], "--relay-later") == 0 && at + 5 < argc) {
             self->later_at = (uint64_t)atol(argv[at + 1]) * 1000000;
-            self->later = (faz_line_relay){argv[at + 2], (uint16_t)atoi(argv[at + 3]), argv[at + 4], argv[at + 5], false};
+            self->later = (faz_line_relay){ argv[at + 2], (uint16_t)atoi(argv[at + 3]), argv[at + 4], argv[at + 5], false };
             at += 5;
         } else if (strcmp(argv[at], "--relay-only") == 0) {
             self->settings.relay_only = true;
@@ -295,7 +296,7 @@ static void read_options(talk *self, int argc, char **argv) {
 }
 
 int main(int argc, char **argv) {
-    static talk self = {.seconds = 3, .within = 20, .carried = 20, .size = 45};
+    static talk self = { .seconds = 3, .within = 20, .carried = 20, .size = 45 };
     faz_line_keys keys;
     uint8_t their[FAZ_LINE_KEY];
     const char *why;

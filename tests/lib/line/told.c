@@ -86,7 +86,7 @@ static void tell(const faz_line_settings *how, char told[ROOM]) {
             for (char *at = inside + 4; at < inside + length - NOTE_OVERHEAD; at += strlen(at) + 1)
                 strcat(strcat(told, at), "\n");
         }
-        nanosleep(&(struct timespec){.tv_nsec = 1000000}, NULL);
+        nanosleep(&(struct timespec){ .tv_nsec = 1000000 }, NULL);
     }
     faz_line_close(line);
 }
@@ -96,13 +96,14 @@ int main(int words, char **word) {
     if (words != 4)
         return 2;
     find_addresses();
-    faz_line_settings settings = {0};
+    faz_line_settings settings = { 0 };
     for (int family = AF_INET; family != 0; family = family == AF_INET ? AF_INET6 : 0)
         if (relay_at(family) != NULL)
-            settings.relays[settings.relay_count++] = (faz_line_relay){relay_at(family), (uint16_t)atoi(word[1]), word[2], word[3], false};
+            settings.relays[settings.relay_count++] = (faz_line_relay){ relay_at(family), (uint16_t)atoi(word[1]), word[2], word[3],
+                                                                        false };
     tell(&settings, told);
-    CHECK_SAY(found_in(told) > 0 && strstr(told, "203.0.113.10 50000 typ relay") != NULL,
-              "a line tells this machine's addresses:\n%s", told);
+    CHECK_SAY(found_in(told) > 0 && strstr(told, "203.0.113.10 50000 typ relay") != NULL, "a line tells this machine's addresses:\n%s",
+              told);
     settings.relay_only = true;
     tell(&settings, hidden);
     CHECK_SAY(found_in(hidden) == 0, "by a relay alone this machine's address is told:\n%s", hidden);

@@ -86,14 +86,14 @@ static void set(int control, unsigned long request, struct ifreq *what) {
 
 static int device(const side *of, const char *space) {
     char path[200];
-    struct ifreq what = {.ifr_flags = IFF_TUN | IFF_NO_PI};
+    struct ifreq what = { .ifr_flags = IFF_TUN | IFF_NO_PI };
     snprintf(path, sizeof path, "/run/netns/%s", space);
     enter(path);
     int made = open("/dev/net/tun", O_RDWR | O_NONBLOCK), control = socket(AF_INET, SOCK_DGRAM, 0);
     memcpy(what.ifr_name, of->name, sizeof what.ifr_name);
     if (made < 0 || control < 0 || ioctl(made, TUNSETIFF, &what) != 0)
         fail("a TUN device");
-    struct sockaddr_in address = {.sin_family = AF_INET};
+    struct sockaddr_in address = { .sin_family = AF_INET };
     memcpy(&address.sin_addr, of->network[0].bytes, sizeof address.sin_addr);
     memcpy(&what.ifr_addr, &address, sizeof address);
     set(control, SIOCSIFADDR, &what);
@@ -209,16 +209,16 @@ static void obey(const char *line) {
 }
 
 int main(int argc, char **argv) {
-    struct pollfd polls[SIDES + 1] = {{.fd = 0, .events = POLLIN}};
+    struct pollfd polls[SIDES + 1] = { { .fd = 0, .events = POLLIN } };
     for (int at = 1; at < argc; at++) {
         add(argv[at]);
-        polls[at] = (struct pollfd){.fd = sides[at - 1].device, .events = POLLIN};
+        polls[at] = (struct pollfd){ .fd = sides[at - 1].device, .events = POLLIN };
     }
     puts("up");
     fflush(stdout);
     for (;;) {
         uint64_t now = micros(), wait = give(now) - now;
-        struct timespec until = {.tv_sec = (time_t)(wait / 1000000), .tv_nsec = (long)(wait % 1000000) * 1000};
+        struct timespec until = { .tv_sec = (time_t)(wait / 1000000), .tv_nsec = (long)(wait % 1000000) * 1000 };
         ppoll(polls, (nfds_t)count + 1, &until, NULL);
         for (int at = 0; at < count; at++)
             for (int n = 0; n < BATCH && (polls[at + 1].revents & POLLIN); n++) {

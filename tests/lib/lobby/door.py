@@ -1,6 +1,7 @@
 #!/usr/bin/env python3
-"""Asks a door for more than it gives one network: door.py PORT [TURN]. The broker at PORT takes players without a pass, the door has 20 tries for
-an address, and relays; TURN is the port of a relay that gives each user two places. Each line that it writes is a check that failed."""
+"""Asks a door for more than it gives one network: door.py PORT [TURN]. The broker at PORT takes players without a pass, the door has 20
+tries for an address, and relays; TURN is the port of a relay that gives each user two places. Each line that it writes is a check that
+failed."""
 import ctypes
 import ctypes.util
 import json

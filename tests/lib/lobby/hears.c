@@ -25,9 +25,7 @@ static uint32_t now(void) {
 
 /* ---- the broker */
 
-static void say(int to, const char *text) {
-    (void)!send(to, text, strlen(text), MSG_NOSIGNAL);
-}
+static void say(int to, const char *text) { (void)!send(to, text, strlen(text), MSG_NOSIGNAL); }
 
 static void say_all(int to, unsigned long subscription) {
     char message[64], all[sizeof message * AT_ONCE] = "";
@@ -87,7 +85,7 @@ static void hear_all(const char *url) {
 }
 
 int main(void) {
-    struct sockaddr_in at = {.sin_family = AF_INET, .sin_addr.s_addr = htonl(INADDR_LOOPBACK)};
+    struct sockaddr_in at = { .sin_family = AF_INET, .sin_addr.s_addr = htonl(INADDR_LOOPBACK) };
     socklen_t length = sizeof at;
     pthread_t thread;
     char url[64];

@@ -30,7 +30,7 @@ static struct {
     natsSubscription *all;
     natsMsg *kept[KEPT];
     size_t count;
-    bool lasts, stays_open; /* as the settings have them */
+    bool lasts, stays_open;      /* as the settings have them */
     char nobody[BROKER_SUBJECT]; /* an inbox that no machine hears */
 } self;
 
@@ -57,7 +57,7 @@ static void turn(void) {
             self.code_why = event.why;
         }
     }
-    nanosleep(&(struct timespec){.tv_nsec = 1000000}, NULL);
+    nanosleep(&(struct timespec){ .tv_nsec = 1000000 }, NULL);
 }
 
 static void run(uint32_t milliseconds) {
@@ -88,8 +88,9 @@ static bool is_told(int at, faz_lobby_what what, unsigned times) {
 
 static void open_host(uint32_t players, bool asks) {
     const char *why = NULL;
-    faz_lobby_settings settings = {.broker = self.url, .name = HOST, .digest = 7, .players = players, .asks = asks, .lasts = self.lasts,
-                                   .stays_open = self.stays_open};
+    faz_lobby_settings settings = {
+        .broker = self.url, .name = HOST, .digest = 7, .players = players, .asks = asks, .lasts = self.lasts, .stays_open = self.stays_open
+    };
     memset(self.told, 0, sizeof self.told);
     self.lobby[0] = faz_lobby_host(&settings, &why);
     CHECK_SAY(self.lobby[0] != NULL && comes_to(0, FAZ_LOBBY_MEETING), "a host");
@@ -97,7 +98,7 @@ static void open_host(uint32_t players, bool asks) {
 
 static void open_friend(int at) {
     const char *why = NULL;
-    faz_lobby_settings settings = {.broker = self.url, .name = FRIEND, .digest = 7, .lasts = self.lasts};
+    faz_lobby_settings settings = { .broker = self.url, .name = FRIEND, .digest = 7, .lasts = self.lasts };
     self.lobby[at] = faz_lobby_join(&settings, self.code, &why);
     CHECK_SAY(self.lobby[at] != NULL, "a friend");
 }
@@ -209,7 +210,8 @@ static void test_stranger(void) {
         /* (a busy machine may stand still for the second after which a line is silent) */
         CHECK_SAY(self.told[at][FAZ_LOBBY_FULL] == 1 && self.told[at][FAZ_LOBBY_UP] >= 2
                       && self.told[at][FAZ_LOBBY_UP] <= 2 + self.told[at][FAZ_LOBBY_SILENT]
-                      && faz_lobby_stage_of(self.lobby[at]) == FAZ_LOBBY_READY, "the match goes on among strangers");
+                      && faz_lobby_stage_of(self.lobby[at]) == FAZ_LOBBY_READY,
+                  "the match goes on among strangers");
     CHECK_SAY(self.told[0][FAZ_LOBBY_JOINED] == 2, "nobody else joined");
     close_all();
 }
@@ -235,10 +237,18 @@ static void test_hidden(void) {
 /* Answers go to inboxes alone: nobody makes a host say something elsewhere. */
 static void test_elsewhere(void) {
     char slip[BROKER_SUBJECT], longer[BROKER_SUBJECT + 1], part[BROKER_SUBJECT];
-    const char *const places[] = {"faz.meet.x", "faz.in.", "faz.in.>", "elsewhere", "faz.in.0123456789abcdef0123456789abcdeF", slip, longer,
-                                  "faz.in.0123456789abcdef0123456789abcdef0", "faz.in.0123456789abcdef0123456789abcde", part};
+    const char *const places[] = { "faz.meet.x",
+                                   "faz.in.",
+                                   "faz.in.>",
+                                   "elsewhere",
+                                   "faz.in.0123456789abcdef0123456789abcdeF",
+                                   slip,
+                                   longer,
+                                   "faz.in.0123456789abcdef0123456789abcdef0",
+                                   "faz.in.0123456789abcdef0123456789abcde",
+                                   part };
     uint8_t message[BROKER_MESSAGE];
-    hello text = {.version = LOBBY_VERSION};
+    hello text = { .version = LOBBY_VERSION };
     strcpy(slip, self.nobody);
     slip[20] = slip[20] == 'A' ? 'B' : 'A';
     snprintf(longer, sizeof longer, "%sA", self.nobody);
@@ -274,8 +284,8 @@ static void test_older(void) {
     static const char inbox[] = "faz.in.0123456789abcdef0123456789abcdef";
     uint8_t message[BROKER_MESSAGE], secret[KEY];
     pair between;
-    hello text = {.version = 1};
-    ask asks = {.counter = 1, .digest = 7, .here = 1, .name = "old"};
+    hello text = { .version = 1 };
+    ask asks = { .counter = 1, .digest = 7, .here = 1, .name = "old" };
     open_host(2, false);
     forget();
     const room *in = &self.lobby[0]->room;
@@ -296,7 +306,7 @@ static void test_older(void) {
 static void test_false_host(void) {
     uint8_t message[BROKER_MESSAGE], secret[SECRET];
     const char *why;
-    offer lie = {.version = LOBBY_VERSION};
+    offer lie = { .version = LOBBY_VERSION };
     open_host(2, false);
     open_friend(1);
     const room *in = &self.lobby[0]->room;
@@ -307,7 +317,7 @@ static void test_false_host(void) {
     faz_lobby_turn(self.lobby[1], now());
     for (int times = 0; times < 50; times++) {
         say(self.lobby[1]->inbox_name, NULL, message, length);
-        nanosleep(&(struct timespec){.tv_nsec = 1000000}, NULL);
+        nanosleep(&(struct timespec){ .tv_nsec = 1000000 }, NULL);
         faz_lobby_turn(self.lobby[1], now());
     }
     CHECK_SAY(self.lobby[1]->joining.stage == SAYS_HELLO, "another host's key is none of this code");
@@ -316,12 +326,12 @@ static void test_false_host(void) {
     say(self.lobby[1]->inbox_name, NULL, message, length);
     natsConnection_FlushTimeout(self.stranger, 1000);
     for (int times = 0; times < 50; times++) {
-        nanosleep(&(struct timespec){.tv_nsec = 1000000}, NULL);
+        nanosleep(&(struct timespec){ .tv_nsec = 1000000 }, NULL);
         faz_lobby_turn(self.lobby[1], now());
     }
     CHECK_SAY(self.lobby[1]->joining.stage == SAYS_HELLO, "the host's key without its word");
     CHECK_SAY(comes_to(1, FAZ_LOBBY_READY), "the friend comes to the real host");
-    faz_lobby_settings settings = {.broker = self.url, .digest = 7};
+    faz_lobby_settings settings = { .broker = self.url, .digest = 7 };
     self.lobby[2] = faz_lobby_join(&settings, self.code, &why);
     CHECK_SAY(self.lobby[2] != NULL && comes_to(2, FAZ_LOBBY_OVER) && self.last[2].why == FAZ_LOBBY_NO_SEAT, "all seats are taken");
     close_all();
@@ -334,7 +344,7 @@ static void come_and_leave(int many) {
     const room *in = &self.lobby[0]->room;
     for (int one = 0; one < many; one++) {
         pair between;
-        ask text = {.digest = 8, .here = 1, .name = "crowd"};
+        ask text = { .digest = 8, .here = 1, .name = "crowd" };
         crypto_kx_keypair(text.open, secret);
         faz_pair_of(&between, in, text.open, secret, self.lobby[0]->keys.open);
         for (text.counter = 1; text.counter <= 2; text.counter++) {
@@ -391,7 +401,8 @@ static void test_silence(void) {
     CHECK_SAY(is_told(0, FAZ_LOBBY_ASKS, 2) && is_told(1, FAZ_LOBBY_ASKS, 1), "the next one asks");
     CHECK_SAY(strcmp(self.last[0].text, self.last[1].text) == 0 && self.last[1].what == FAZ_LOBBY_ASKS, "both see the same");
     CHECK_SAY(faz_lobby_let_in(self.lobby[0], self.last[0].who, false) && comes_to(1, FAZ_LOBBY_OVER)
-                  && self.last[1].why == FAZ_LOBBY_NOT_LET_IN, "it isn't let in");
+                  && self.last[1].why == FAZ_LOBBY_NOT_LET_IN,
+              "it isn't let in");
     close_all();
     forget();
 }
@@ -404,7 +415,7 @@ static void test_crowd(void) {
     for (int one = 0; one < 500; one++) {
         uint8_t secret[KEY];
         pair between;
-        ask text = {.counter = 1, .digest = 7, .here = 1, .name = "crowd"};
+        ask text = { .counter = 1, .digest = 7, .here = 1, .name = "crowd" };
         crypto_kx_keypair(text.open, secret);
         faz_pair_of(&between, in, text.open, secret, self.lobby[0]->keys.open);
         say(self.lobby[0]->room_name, self.nobody, message, faz_ask_write(&text, in, &between, message));
@@ -427,13 +438,13 @@ static void test_crowd(void) {
 static void test_refusals(void) {
     uint8_t message[BROKER_MESSAGE];
     const char *why;
-    faz_lobby_settings settings = {.broker = self.url, .digest = 8};
-    offer newer = {.version = LOBBY_VERSION + 1};
+    faz_lobby_settings settings = { .broker = self.url, .digest = 8 };
+    offer newer = { .version = LOBBY_VERSION + 1 };
     open_host(2, false);
     self.lobby[1] = faz_lobby_join(&settings, self.code, &why);
     CHECK_SAY(comes_to(1, FAZ_LOBBY_OVER) && self.last[1].why == FAZ_LOBBY_OTHER_GAME, "another game");
     close_one(1);
-    settings = (faz_lobby_settings){.broker = self.url, .digest = 7, .here = 2};
+    settings = (faz_lobby_settings){ .broker = self.url, .digest = 7, .here = 2 };
     self.lobby[1] = faz_lobby_join(&settings, self.code, &why);
     CHECK_SAY(comes_to(1, FAZ_LOBBY_OVER) && self.last[1].why == FAZ_LOBBY_NO_SEAT, "two at one machine, and one seat");
     close_one(1);
@@ -484,7 +495,8 @@ static void test_false_nobody(void) {
         run(10);
     }
     CHECK_SAY(self.told[1][FAZ_LOBBY_UNANSWERED] == 1 && strstr(self.last[1].text, "nobody answers so far") != NULL
-                  && strstr(self.last[1].text, "10 seconds") != NULL, "it is told, and for how long it is waited");
+                  && strstr(self.last[1].text, "10 seconds") != NULL,
+              "it is told, and for how long it is waited");
     wait_for(8000);
     CHECK_SAY(faz_lobby_stage_of(self.lobby[1]) == FAZ_LOBBY_MEETING, "it ends nothing");
     self.lobby[0] = slow;
@@ -524,7 +536,7 @@ static void test_host_leaves(void) {
  * and it says so in a third one's name. Nobody believes it. And who has the code gets no place of those who are there. */
 static void test_false_news(void) {
     uint8_t message[BROKER_MESSAGE], secret[KEY];
-    news lie = {.counter = 1, .who = {.name = "liar"}};
+    news lie = { .counter = 1, .who = { .name = "liar" } };
     self.lasts = true;
     open_host(3, false);
     open_friend(1);
@@ -566,7 +578,7 @@ static void test_false_news(void) {
 /* Machine 1 tells the host that somebody has a place. */
 static void tell_news(uint32_t counter, uint32_t place, const uint8_t open[KEY]) {
     uint8_t message[BROKER_MESSAGE];
-    news lie = {.counter = counter, .place = place, .who = {.name = "liar"}};
+    news lie = { .counter = counter, .place = place, .who = { .name = "liar" } };
     memcpy(lie.who.open, open, KEY);
     say(self.lobby[0]->inbox_name, NULL, message, faz_news_write(1, &lie, &self.lobby[1]->other[0].pair, message));
     natsConnection_FlushTimeout(self.stranger, 1000);
@@ -584,7 +596,7 @@ static void fall_silent(uint32_t milliseconds) {
 static void ask_anew(int from, int to, const char *name) {
     uint8_t message[BROKER_MESSAGE];
     pair between;
-    ask text = {.counter = 1, .digest = 7, .here = 1};
+    ask text = { .counter = 1, .digest = 7, .here = 1 };
     const room *in = &self.lobby[to]->later;
     strcpy(text.name, name);
     memcpy(text.open, self.lobby[from]->keys.open, KEY);
@@ -653,8 +665,8 @@ static void test_known_comer(void) {
 /* Of a seat that nobody has yet nobody speaks, whatever its key, and nobody is told that it is nobody's; a friend gets it. */
 static void test_false_vacancies(void) {
     uint8_t message[BROKER_MESSAGE], secret[KEY];
-    news lie = {.counter = 1, .place = 2, .who = {.name = "liar"}};
-    pair nobodys = {0};
+    news lie = { .counter = 1, .place = 2, .who = { .name = "liar" } };
+    pair nobodys = { 0 };
     self.lasts = self.stays_open = true;
     open_host(3, false);
     open_friend(1);
@@ -666,8 +678,9 @@ static void test_false_vacancies(void) {
         say(self.lobby[0]->inbox_name, NULL, message, faz_news_write(2, &lie, &nobodys, message));
     say(self.lobby[0]->inbox_name, NULL, message, faz_signal_write(2, secret, sizeof secret, &nobodys, message));
     run(300);
-    CHECK_SAY(self.told[0][FAZ_LOBBY_COMES] == 0 && faz_lobby_look(self.lobby[0], 1, &(faz_line_state){0})
-                  && !faz_lobby_look(self.lobby[0], 2, &(faz_line_state){0}), "nobody comes");
+    CHECK_SAY(self.told[0][FAZ_LOBBY_COMES] == 0 && faz_lobby_look(self.lobby[0], 1, &(faz_line_state){ 0 })
+                  && !faz_lobby_look(self.lobby[0], 2, &(faz_line_state){ 0 }),
+              "nobody comes");
     open_friend(2);
     CHECK_SAY(comes_to(2, FAZ_LOBBY_READY) && self.told[0][FAZ_LOBBY_COMES] == 1 && self.told[1][FAZ_LOBBY_COMES] == 1, "a friend comes");
     self.lasts = self.stays_open = false;
@@ -678,11 +691,14 @@ static void test_false_vacancies(void) {
 /* Settings that are no good are refused in words, and nothing is opened. */
 static void test_settings(void) {
     const char *why = NULL;
-    char common[FAZ_LOBBY_COMMON + 1] = {0};
-    faz_lobby_settings good = {.broker = self.url, .players = 2}, bad;
-    struct { faz_lobby_settings settings; const char *what; } hosts[] = {
-        {good, "one player"}, {good, "nine players"}, {good, "nobody elsewhere"}, {good, "too long"}, {good, "no broker"}, {good, "no address"},
-        {good, "no user"}, {good, "open seats"}, {good, "half a pass"}, {good, "a token"}};
+    char common[FAZ_LOBBY_COMMON + 1] = { 0 };
+    faz_lobby_settings good = { .broker = self.url, .players = 2 }, bad;
+    struct {
+        faz_lobby_settings settings;
+        const char *what;
+    } hosts[] = { { good, "one player" },  { good, "nine players" }, { good, "nobody elsewhere" }, { good, "too long" },
+                  { good, "no broker" },   { good, "no address" },   { good, "no user" },          { good, "open seats" },
+                  { good, "half a pass" }, { good, "a token" } };
     hosts[0].settings.players = 1;
     hosts[1].settings.players = 9;
     hosts[2].settings.here = 2;
@@ -693,7 +709,7 @@ static void test_settings(void) {
     hosts[8].settings.broker = "nats://SAAEHIWEKULOERSUIWN3EZG5SQZ5MIZRPODLROKQ5HPRVG7BPIGWX5BNLU@127.0.0.1:1";
     hosts[9].settings.broker = "nats://127.0.0.1:1,nats://secret@127.0.0.1:2";
     hosts[6].settings.relay_count = 1;
-    hosts[6].settings.relays[0] = (faz_line_relay){.address = "127.0.0.1", .port = 1, .password = "x"};
+    hosts[6].settings.relays[0] = (faz_line_relay){ .address = "127.0.0.1", .port = 1, .password = "x" };
     hosts[7].settings.stays_open = true;
     for (size_t at = 0; at < sizeof hosts / sizeof *hosts; at++, why = NULL)
         CHECK_SAY(faz_lobby_host(&hosts[at].settings, &why) == NULL && why != NULL, "%s", hosts[at].what);
@@ -714,8 +730,9 @@ static void test_settings(void) {
 
 static void open_short(uint32_t players) {
     const char *why = NULL;
-    faz_lobby_settings settings = {.broker = self.url, .name = HOST, .digest = 7, .players = players, .short_code = true,
-                                   .lasts = self.lasts};
+    faz_lobby_settings settings = {
+        .broker = self.url, .name = HOST, .digest = 7, .players = players, .short_code = true, .lasts = self.lasts
+    };
     memset(self.told, 0, sizeof self.told);
     self.lobby[0] = faz_lobby_host(&settings, &why);
     CHECK_SAY(self.lobby[0] != NULL && is_told(0, FAZ_LOBBY_CODE, 1), "a host with a short code");
@@ -795,7 +812,7 @@ static void test_burnt(void) {
 /* Somebody knocks, and shows nothing. */
 static void knock_once(void) {
     uint8_t message[BROKER_MESSAGE];
-    knock text = {.step = 1};
+    knock text = { .step = 1 };
     pake *one = faz_pake_open(false, self.lobby[0]->hosting.plate, "0000");
     randombytes_buf(text.id, KNOCK_ID);
     faz_pake_turn(one, NULL, 0, text.bytes, &text.length);
@@ -866,7 +883,7 @@ static void test_knocks(void) {
     run(100);
     CHECK_SAY(self.lobby[0]->hosting.wrong == 3, "three have had their tries");
     for (int times = 0; times < 300; times++) {
-        knock text = {.step = (uint8_t)(times % 5), .length = randombytes_uniform(PAKE_BYTES)};
+        knock text = { .step = (uint8_t)(times % 5), .length = randombytes_uniform(PAKE_BYTES) };
         randombytes_buf(text.id, KNOCK_ID);
         randombytes_buf(text.bytes, sizeof text.bytes);
         size_t length = faz_knock_write(&text, KNOCK, message);
@@ -896,7 +913,7 @@ static void test_knocks(void) {
 /* Says something in the host's place, to the last one who knocked. */
 static void say_knocked(bool is_wrong, size_t length) {
     uint8_t message[BROKER_MESSAGE];
-    knock text = {.step = self.lobby[1]->joining.knock.step, .is_wrong = is_wrong, .length = length};
+    knock text = { .step = self.lobby[1]->joining.knock.step, .is_wrong = is_wrong, .length = length };
     memcpy(text.id, self.lobby[1]->joining.knock.id, KNOCK_ID);
     randombytes_buf(text.bytes, sizeof text.bytes);
     say(self.lobby[1]->inbox_name, NULL, message, faz_knock_write(&text, KNOCKED, message));
@@ -916,7 +933,8 @@ static void test_false_knocked(void) {
     for (int times = 0; times < 10; times++)
         say_knocked(true, 0);
     CHECK_SAY(self.told[1][FAZ_LOBBY_UNANSWERED] == 1 && self.last[1].why == FAZ_LOBBY_WRONG_CODE
-                  && strstr(self.last[1].text, "3 seconds") != NULL, "it is told, and for how long it is waited");
+                  && strstr(self.last[1].text, "3 seconds") != NULL,
+              "it is told, and for how long it is waited");
     say_nobody(self.lobby[1]->inbox_name);
     say_knocked(false, 300);
     say_knocked(false, 0);
@@ -940,7 +958,7 @@ static void test_false_offer(void) {
     forget();
     run(100);
     hear();
-    broker_message changed = {0};
+    broker_message changed = { 0 };
     for (size_t at = 0; at < self.count; at++)
         if (strcmp(natsMsg_GetSubject(self.kept[at]), joins->inbox_name) == 0) {
             changed.length = (size_t)natsMsg_GetDataLength(self.kept[at]);
@@ -979,7 +997,7 @@ static void test_no_proof(void) {
 static void test_knocks_again(void) {
     char other[BROKER_SUBJECT];
     uint8_t message[BROKER_MESSAGE], inbox[INBOX];
-    knock text = {.step = 1};
+    knock text = { .step = 1 };
     open_short(2);
     pake *one = faz_pake_open(false, self.lobby[0]->hosting.plate, "0000");
     randombytes_buf(text.id, KNOCK_ID);
@@ -988,7 +1006,7 @@ static void test_knocks_again(void) {
     size_t length = faz_knock_write(&text, KNOCK, message);
     randombytes_buf(inbox, INBOX);
     faz_inbox_subject(inbox, other);
-    const char *const from[] = {self.nobody, other, self.nobody};
+    const char *const from[] = { self.nobody, other, self.nobody };
     for (size_t at = 0; at < sizeof from / sizeof *from; at++) {
         forget();
         say(self.lobby[0]->room_name, from[at], message, length);
@@ -1003,7 +1021,7 @@ static void test_knocks_again(void) {
 /* A plate that nobody has is told at once; who tries many is told to wait. */
 static void test_no_plate(void) {
     const char *why;
-    faz_lobby_settings settings = {.broker = self.url, .digest = 7};
+    faz_lobby_settings settings = { .broker = self.url, .digest = 7 };
     strcpy(self.code, "ZZZ-ZZZZ");
     open_friend(1);
     uint32_t begun = now();
@@ -1025,16 +1043,32 @@ typedef struct test {
 } test;
 
 int main(int count, char **words) {
-    static const test tests[] = {
-        {"settings", test_settings}, {"stranger", test_stranger}, {"hidden", test_hidden}, {"elsewhere", test_elsewhere}, {"older", test_older},
-        {"false host", test_false_host}, {"ghosts", test_ghosts}, {"silence", test_silence}, {"crowd", test_crowd},
-        {"refusals", test_refusals}, {"false nobody", test_false_nobody}, {"host leaves", test_host_leaves},
-        {"false news", test_false_news}, {"known keys", test_known_keys}, {"known comer", test_known_comer},
-        {"false vacancies", test_false_vacancies}};
-    static const test shorts[] = {
-        {"all tries", test_all_tries}, {"wrong tries", test_wrong_tries}, {"burnt", test_burnt}, {"no more tries", test_no_more_tries},
-        {"knocks", test_knocks}, {"knocks again", test_knocks_again}, {"false knocked", test_false_knocked}, {"false offer", test_false_offer},
-        {"no proof", test_no_proof}, {"no plate", test_no_plate}};
+    static const test tests[] = { { "settings", test_settings },
+                                  { "stranger", test_stranger },
+                                  { "hidden", test_hidden },
+                                  { "elsewhere", test_elsewhere },
+                                  { "older", test_older },
+                                  { "false host", test_false_host },
+                                  { "ghosts", test_ghosts },
+                                  { "silence", test_silence },
+                                  { "crowd", test_crowd },
+                                  { "refusals", test_refusals },
+                                  { "false nobody", test_false_nobody },
+                                  { "host leaves", test_host_leaves },
+                                  { "false news", test_false_news },
+                                  { "known keys", test_known_keys },
+                                  { "known comer", test_known_comer },
+                                  { "false vacancies", test_false_vacancies } };
+    static const test shorts[] = { { "all tries", test_all_tries },
+                                   { "wrong tries", test_wrong_tries },
+                                   { "burnt", test_burnt },
+                                   { "no more tries", test_no_more_tries },
+                                   { "knocks", test_knocks },
+                                   { "knocks again", test_knocks_again },
+                                   { "false knocked", test_false_knocked },
+                                   { "false offer", test_false_offer },
+                                   { "no proof", test_no_proof },
+                                   { "no plate", test_no_plate } };
     bool are_short = count == 3 && strcmp(words[2], "short") == 0;
     if (count != 2 && !are_short)
         return 2;

@@ -1,5 +1,5 @@
-/* What follows from a host's key, what two machines seal, and what a command line says of servers: keys HOST CODE ROOM KEY, as code.py prints them.
- * keys code: a code that is good, and nobody's. */
+/* What follows from a host's key, what two machines seal, and what a command line says of servers: keys HOST CODE ROOM KEY, as code.py
+ * prints them. keys code: a code that is good, and nobody's. */
 #include "../../../lib/lobby/keys.h"
 #include "../../../lib/lobby/messages.h"
 #include "../../../lib/lobby/words.h"
@@ -37,7 +37,8 @@ static void check_spelling(const char *text) {
     }
     other[length++] = '\n';
     other[length] = 0;
-    CHECK_SAY(faz_code_read(other, read) && memcmp(read, code, CODE_BYTES) == 0, "small letters, spaces, and letters that look like digits");
+    CHECK_SAY(faz_code_read(other, read) && memcmp(read, code, CODE_BYTES) == 0,
+              "small letters, spaces, and letters that look like digits");
 }
 
 /* A sign too few or too many, other bytes, and for each place every other sign, and each two neighbours the other way round. */
@@ -84,7 +85,8 @@ static void check_pairs(const room *in, const room *elsewhere) {
     CHECK_SAY(faz_pair_open(&other, out, 'x', sealed, sizeof sealed) && memcmp(out, text, sizeof text) == 0, "the other one opens it");
     CHECK_SAY(!faz_pair_open(&one, out, 'x', sealed, sizeof sealed), "who made it doesn't take it back");
     CHECK_SAY(!faz_pair_open(&other, out, 'y', sealed, sizeof sealed), "another kind");
-    CHECK_SAY(!faz_pair_open(&third, out, 'x', sealed, sizeof sealed) && !faz_pair_open(&fourth, out, 'x', sealed, sizeof sealed), "others");
+    CHECK_SAY(!faz_pair_open(&third, out, 'x', sealed, sizeof sealed) && !faz_pair_open(&fourth, out, 'x', sealed, sizeof sealed),
+              "others");
     CHECK_SAY(!faz_room_open(in, out, 'x', sealed, sizeof sealed), "who has the code alone");
     for (size_t at = 0; at < 8 * sizeof sealed; at++) {
         sealed[at / 8] ^= (uint8_t)(1 << at % 8);
@@ -97,13 +99,14 @@ static void check_pairs(const room *in, const room *elsewhere) {
     faz_pair_words(&third, words[1]);
     CHECK_SAY(strcmp(words[0], words[1]) != 0, "other pairs see others");
     faz_room_seal(in, sealed, 'x', text, sizeof text);
-    CHECK_SAY(faz_room_open(in, out, 'x', sealed, sizeof sealed) && !faz_room_open(in, out, 'y', sealed, sizeof sealed), "all who have the code");
+    CHECK_SAY(faz_room_open(in, out, 'x', sealed, sizeof sealed) && !faz_room_open(in, out, 'y', sealed, sizeof sealed),
+              "all who have the code");
     CHECK_SAY(!faz_room_open(elsewhere, out, 'x', sealed, sizeof sealed), "who has another code");
 }
 
 /* The zero key, and points of small order, give no pair. */
 static void check_bad_keys(const room *in) {
-    uint8_t open[KEY], secret[KEY], bad[KEY] = {0};
+    uint8_t open[KEY], secret[KEY], bad[KEY] = { 0 };
     pair one;
     crypto_kx_keypair(open, secret);
     CHECK_SAY(!faz_pair_of(&one, in, open, secret, bad), "a key of zeros");
@@ -126,7 +129,7 @@ static void check_vouching(void) {
 /* So many keys that were here are known, and the oldest one is forgotten then. */
 static void check_seen(void) {
     static seen_keys seen;
-    uint8_t open[KEY] = {0}, first[KEY] = {0};
+    uint8_t open[KEY] = { 0 }, first[KEY] = { 0 };
     CHECK_SAY(!faz_seen_has(&seen, open), "no key was here");
     for (uint32_t at = 0; at < 4096; at++) {
         memcpy(open, &at, sizeof at);
@@ -145,9 +148,9 @@ static void check_tables(const room *in) {
     uint8_t message[BROKER_MESSAGE];
     pair host, joins;
     draw_pair(&host, &joins, in);
-    written = (answer){.counter = 3, .what = BEGINS, .name = "Ann"};
+    written = (answer){ .counter = 3, .what = BEGINS, .name = "Ann" };
     table *text = &written.table;
-    *text = (table){.me = 1, .machines = 8, .players = 8, .number = 77, .common_length = FAZ_LOBBY_COMMON};
+    *text = (table){ .me = 1, .machines = 8, .players = 8, .number = 77, .common_length = FAZ_LOBBY_COMMON };
     randombytes_buf(text->common, FAZ_LOBBY_COMMON);
     for (uint32_t at = 0; at < 8; at++) {
         text->owners[at] = at;
@@ -160,7 +163,8 @@ static void check_tables(const room *in) {
     CHECK_SAY(came.counter == 3 && came.what == BEGINS && strcmp(came.name, "Ann") == 0 && came.table.me == 1 && came.table.number == 77
                   && memcmp(came.table.owners, text->owners, sizeof text->owners) == 0
                   && memcmp(came.table.member, text->member, sizeof text->member) == 0
-                  && memcmp(came.table.common, text->common, FAZ_LOBBY_COMMON) == 0, "it is read as it was written");
+                  && memcmp(came.table.common, text->common, FAZ_LOBBY_COMMON) == 0,
+              "it is read as it was written");
     text->owners[3] = 8;
     CHECK_SAY(!faz_answer_read(&came, &joins, message, faz_answer_write(&written, &host, message)), "a player of no machine");
     text->owners[3] = 3;
@@ -188,15 +192,16 @@ static void check_name(const char *given, const char *due) {
 static void check_server(const char *said, const char *address, uint16_t port) {
     char relay[LOBBY_WORDS_ROOM];
     snprintf(relay, sizeof relay, "17:friends:x@%s", said);
-    lobby_words words = {.broker = "nats://[2001:db8::10]:4222", .stun = said}, with_relay = {.broker = words.broker, .relay = relay};
-    faz_lobby_settings stun = {0}, settings = {0};
+    lobby_words words = { .broker = "nats://[2001:db8::10]:4222", .stun = said }, with_relay = { .broker = words.broker, .relay = relay };
+    faz_lobby_settings stun = { 0 }, settings = { 0 };
     bool is_read = faz_lobby_words_read(&words, &stun) == NULL;
     CHECK_SAY(is_read == (faz_lobby_words_read(&with_relay, &settings) == NULL) && is_read == (address != NULL), "%s", said);
     if (!is_read || address == NULL)
         return;
     CHECK_SAY(strcmp(stun.stun, address) == 0 && stun.stun_port == port, "%s", said);
     CHECK_SAY(settings.relay_count == 1 && strcmp(settings.relays[0].address, address) == 0 && settings.relays[0].port == port
-                  && strcmp(settings.relays[0].user, "17:friends") == 0 && strcmp(settings.relays[0].password, "x") == 0, "%s", relay);
+                  && strcmp(settings.relays[0].user, "17:friends") == 0 && strcmp(settings.relays[0].password, "x") == 0,
+              "%s", relay);
 }
 
 static void check_servers(void) {
@@ -207,15 +212,17 @@ static void check_servers(void) {
     check_server("[2001:db8::10]", "2001:db8::10", 3478);
     check_server("2001:db8::10", "2001:db8::10", 3478);
     check_server("::1", "::1", 3478);
-    const char *const bad[] = {"", ":3478", "203.0.113.10:", "203.0.113.10:0", "203.0.113.10:65536", "203.0.113.10:34x", "[]:3478",
-                               "[2001:db8::10", "[2001:db8::10]3478", "[2001:db8::10]:", "[2001:db8::10]:-1", "[2001:db8::10]:34:78"};
+    const char *const bad[] = {
+        "",        ":3478",         "203.0.113.10:",      "203.0.113.10:0",  "203.0.113.10:65536", "203.0.113.10:34x",
+        "[]:3478", "[2001:db8::10", "[2001:db8::10]3478", "[2001:db8::10]:", "[2001:db8::10]:-1",  "[2001:db8::10]:34:78"
+    };
     for (size_t at = 0; at < sizeof bad / sizeof *bad; at++)
         check_server(bad[at], NULL, 0);
 }
 
 /* A host's player reads why a code is another one. */
 static void check_told(faz_lobby_why why, const char *due) {
-    faz_lobby_event event = {.what = FAZ_LOBBY_CODE, .why = why, .text = "KXQ-4H7P"};
+    faz_lobby_event event = { .what = FAZ_LOBBY_CODE, .why = why, .text = "KXQ-4H7P" };
     char text[FAZ_LOBBY_TEXT_ROOM];
     faz_lobby_words_of(NULL, &event, text, sizeof text);
     CHECK_SAY(strcmp(text, due) == 0, "%s", text);
@@ -255,7 +262,9 @@ int main(int count, char **words) {
     check_name("Zo\xc3\xab", "Zo\xc3\xab");
     check_name("a\x1b[2Jb\n", "a?[2Jb?");
     check_name("\xff\xc3", "??");
-    check_name("\xc2\x9b" "31m", "??31m");
+    check_name("\xc2\x9b"
+               "31m",
+               "??31m");
     check_name("0123456789012345678901234567890123", "0123456789012345678901234567890");
     check_name("012345678901234567890123456789\xc3\xab", "012345678901234567890123456789");
     return checks_end();

@@ -1,6 +1,6 @@
 #!/usr/bin/env python3
-"""Players of many networks come to a broker's port at which the rules of a file count: unshare -n limits.py FILE, as root. Each line that it
-writes is a check that failed."""
+"""Players of many networks come to a broker's port at which the rules of a file count: unshare -n limits.py FILE, as root. Each line that
+it writes is a check that failed."""
 import ctypes
 import os
 import resource

@@ -43,13 +43,11 @@ static struct {
     machine machine[FAZGROND_MACHINES];
     uint64_t begun, ready, due, wrong, most, turns, busy;
     bool stays_open, is_there, has_match, has_all, is_over; /* is_there: at the broker */
-} self = {.words = {.broker = "nats://127.0.0.1:4222"}, .count = 60, .within = 40};
+} self = { .words = { .broker = "nats://127.0.0.1:4222" }, .count = 60, .within = 40 };
 
 static volatile sig_atomic_t is_asked_to_end;
 
-static void ask_to_end(int signal) {
-    is_asked_to_end = signal;
-}
+static void ask_to_end(int signal) { is_asked_to_end = signal; }
 
 static uint64_t micros_of(clockid_t clock) {
     struct timespec now;
@@ -57,17 +55,14 @@ static uint64_t micros_of(clockid_t clock) {
     return (uint64_t)now.tv_sec * 1000000 + (uint64_t)now.tv_nsec / 1000;
 }
 
-static uint64_t micros(void) {
-    return micros_of(CLOCK_MONOTONIC);
-}
+static uint64_t micros(void) { return micros_of(CLOCK_MONOTONIC); }
 
-static long millis(void) {
-    return (long)((micros() - self.begun) / 1000);
-}
+static long millis(void) { return (long)((micros() - self.begun) / 1000); }
 
-static const char *const WHATS[] = {"code", "away", "asks", "joined", "left", "full", "up", "silent", "blocked", "ended", "comes", "refused", "unanswered"};
-static const char *const WHYS[] = {"-", "no-such-code", "no-seat", "other-game", "not-let-in", "host-left", "other-library", "system",
-                                   "wrong-code", "too-many", "a-page"};
+static const char *const WHATS[] = { "code",   "away",    "asks",  "joined", "left",    "full",      "up",
+                                     "silent", "blocked", "ended", "comes",  "refused", "unanswered" };
+static const char *const WHYS[] = { "-",      "no-such-code", "no-seat",  "other-game", "not-let-in", "host-left", "other-library",
+                                    "system", "wrong-code",   "too-many", "a-page" };
 
 static void tell_events(void) {
     faz_lobby_event event;
@@ -102,7 +97,7 @@ static void receive(void) {
 }
 
 static void send_due(void) {
-    uint8_t bytes[SIZE] = {0};
+    uint8_t bytes[SIZE] = { 0 };
     for (; self.due <= micros(); self.due += PERIOD)
         for (uint32_t to = 0; to < self.match.machines; to++) {
             bytes[8] = (uint8_t)self.match.me;
@@ -174,8 +169,9 @@ static void say_result(void) {
         faz_line_state state;
         if (faz_lobby_look(self.lobby, at, &state))
             printf("with %u number %016" PRIx64 " came %" PRIu64 " gap %" PRIu64 " way %d forged %" PRIu64 " misnamed %" PRIu64
-                   " generation %u\n", at, match->numbers[at], self.machine[at].came, self.machine[at].gap / 1000, (int)state.way,
-                   state.forged, state.misnamed, state.generation);
+                   " generation %u\n",
+                   at, match->numbers[at], self.machine[at].came, self.machine[at].gap / 1000, (int)state.way, state.forged, state.misnamed,
+                   state.generation);
     }
     printf("turn %.1f us of the processor; the longest took %.1f ms; wrong %" PRIu64 "\n", (double)self.busy / (double)self.turns,
            (double)self.most / 1000, self.wrong);
@@ -205,9 +201,9 @@ static int read_option(char **at) {
     const char *text;
     long number;
     if (read_text(at, "--broker", &words->broker) || read_text(at, "--trusted", &words->trusted) || read_text(at, "--name", &words->name)
-        || read_text(at, "--stun", &words->stun) || read_text(at, "--relay", &words->relay) || read_text(at, "--tcp-relay", &words->tcp_relay)
-        || read_number(at, "--begin", &self.begin) || read_number(at, "--count", &self.count) || read_number(at, "--stay", &self.stay)
-        || read_number(at, "--within", &self.within))
+        || read_text(at, "--stun", &words->stun) || read_text(at, "--relay", &words->relay)
+        || read_text(at, "--tcp-relay", &words->tcp_relay) || read_number(at, "--begin", &self.begin)
+        || read_number(at, "--count", &self.count) || read_number(at, "--stay", &self.stay) || read_number(at, "--within", &self.within))
         return 2;
     if (read_number(at, "--digest", &number)) {
         to->digest = (uint64_t)number;
@@ -257,10 +253,10 @@ int main(int count, char **words) {
         printf("refused: %s\n", why);
         return 3;
     }
-    sigaction(SIGUSR1, &(struct sigaction){.sa_handler = ask_to_end}, NULL);
+    sigaction(SIGUSR1, &(struct sigaction){ .sa_handler = ask_to_end }, NULL);
     while (!self.is_over && !is_done() && millis() < self.within * 1000) {
         turn();
-        nanosleep(&(struct timespec){.tv_nsec = 1000000}, NULL);
+        nanosleep(&(struct timespec){ .tv_nsec = 1000000 }, NULL);
     }
     say_result();
     uint64_t closing = micros();

@@ -22,7 +22,7 @@ typedef struct result {
 static result talk(const char *secret, const char *guess, const char *name, int changed) {
     uint8_t from_host[PAKE_BYTES], from_joins[PAKE_BYTES];
     size_t host_size = 0, joins_size = 0;
-    result seen = {PAKE_MORE, PAKE_MORE, 0, 0, {0}, {0}};
+    result seen = { PAKE_MORE, PAKE_MORE, 0, 0, { 0 }, { 0 } };
     pake *host = faz_pake_open(true, "KXQ", secret), *joins = faz_pake_open(false, name, guess);
     for (int turn = 0; turn < TURNS && seen.host == PAKE_MORE && seen.joins != PAKE_WRONG; turn++) {
         seen.joins = faz_pake_turn(joins, from_host, host_size, from_joins, &joins_size);

@@ -26,7 +26,8 @@ static void check_published(void) {
     CHECK_SAY(strcmp(text, key_text) == 0, "%s", text);
     CHECK_SAY(faz_nkey_read(NKEY_USER, key_text, strlen(key_text), read) && memcmp(read, key.open, NKEY) == 0, "a key");
     CHECK_SAY(!faz_nkey_read(NKEY_ACCOUNT, key_text, strlen(key_text), read)
-                  && !faz_nkey_read_seed(&key, NKEY_ACCOUNT, seed_text, strlen(seed_text)), "one of another kind");
+                  && !faz_nkey_read_seed(&key, NKEY_ACCOUNT, seed_text, strlen(seed_text)),
+              "one of another kind");
     read_digits("9d61b19deffd5a60ba844af492ec2cc44449c5697b326919703bac031cae7f60", seed);
     read_digits("d75a980182b10ab7d54bfed3c964073a0ee172f3daa62325af021a68f707511a", open);
     faz_nkey_of_seed(&key, NKEY_USER, seed);
@@ -46,7 +47,8 @@ static void check_made(char **words) {
     faz_pass_write(&self, text);
     CHECK_SAY(strcmp(text, words[4]) == 0, "%s", text);
     CHECK_SAY(faz_pass_read(&came, text, strlen(text)) && memcmp(&came.signer.secret, &self.signer.secret, NKEY_SECRET) == 0
-                  && memcmp(came.account, self.account, NKEY) == 0, "it is read as it was written");
+                  && memcmp(came.account, self.account, NKEY) == 0,
+              "it is read as it was written");
     faz_pass_token(&came, &user, token);
     CHECK_SAY(strcmp(token, words[5]) == 0, "%s", token);
 }

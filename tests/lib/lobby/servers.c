@@ -25,9 +25,7 @@ int __wrap_getaddrinfo(const char *name, const char *service, const struct addri
 static atomic_bool is_slow; /* names have no answer until it is false */
 static atomic_int asked, answered, begun, ended;
 
-static void wait_a_little(void) {
-    nanosleep(&(struct timespec){.tv_nsec = 1000000}, NULL);
-}
+static void wait_a_little(void) { nanosleep(&(struct timespec){ .tv_nsec = 1000000 }, NULL); }
 
 natsStatus __real_natsOptions_Create(natsOptions **options);
 natsStatus __wrap_natsOptions_Create(natsOptions **options);
@@ -69,9 +67,9 @@ int __wrap_getaddrinfo(const char *name, const char *service, const struct addri
 
 static faz_lobby *opened(const char *broker, const char *stun, const char *relay, uint32_t relays) {
     const char *why = NULL;
-    faz_lobby_settings settings = {.broker = broker, .players = 2, .stun = stun, .stun_port = 3478, .relay_count = relays};
+    faz_lobby_settings settings = { .broker = broker, .players = 2, .stun = stun, .stun_port = 3478, .relay_count = relays };
     for (uint32_t at = 0; at < relays; at++)
-        settings.relays[at] = (faz_line_relay){relay, (uint16_t)(1000 + at), "user", "before", at % 2 != 0};
+        settings.relays[at] = (faz_line_relay){ relay, (uint16_t)(1000 + at), "user", "before", at % 2 != 0 };
     faz_lobby *self = faz_lobby_host(&settings, &why);
     CHECK_SAY(self != NULL, "%s", why != NULL ? why : "a host");
     return self;
@@ -127,7 +125,7 @@ static void test_overtaken(const char *address, const char *due) {
     is_slow = true;
     int before = asked;
     faz_lobby *self = opened(NOBODY, "four.example", "both.example", 2);
-    door_answer answer = {.stun = "four.example", .stun_port = 1, .relays = 1, .relay[0].port = 7, .user = "user", .password = "later"};
+    door_answer answer = { .stun = "four.example", .stun_port = 1, .relays = 1, .relay[0].port = 7, .user = "user", .password = "later" };
     for (uint32_t now = 0; now < PATIENCE && asked == before; now++) {
         faz_lobby_turn(self, now);
         wait_a_little();
@@ -183,7 +181,7 @@ static void talk(int to) {
             break;
     }
     server.taken += send(to, pong, sizeof pong - 1, MSG_NOSIGNAL) > 0;
-    nanosleep(&(struct timespec){.tv_nsec = 10000000}, NULL);
+    nanosleep(&(struct timespec){ .tv_nsec = 10000000 }, NULL);
 }
 
 static void *run_broker(void *nothing) {
@@ -196,13 +194,14 @@ static void *run_broker(void *nothing) {
 }
 
 static void begin_broker(bool answers) {
-    struct sockaddr_in at = {.sin_family = AF_INET, .sin_addr.s_addr = htonl(INADDR_LOOPBACK)};
+    struct sockaddr_in at = { .sin_family = AF_INET, .sin_addr.s_addr = htonl(INADDR_LOOPBACK) };
     socklen_t length = sizeof at;
     server.answers = answers;
     server.is_over = false;
     server.socket = socket(AF_INET, SOCK_STREAM, 0);
     CHECK_SAY(bind(server.socket, (const struct sockaddr *)&at, sizeof at) == 0 && listen(server.socket, 64) == 0
-                  && getsockname(server.socket, (struct sockaddr *)&at, &length) == 0, "a broker");
+                  && getsockname(server.socket, (struct sockaddr *)&at, &length) == 0,
+              "a broker");
     snprintf(server.url, sizeof server.url, "nats://127.0.0.1:%u", (unsigned)ntohs(at.sin_port));
     if (answers)
         pthread_create(&server.thread, NULL, run_broker, NULL);

@@ -43,14 +43,20 @@ static void note(const char *call, double begun, double may) {
     CHECK_SAY(took <= MOST, "%s took %.0f ms", call, took + may);
 }
 
-#define TIMED(call) do { double begun = now(); call; note(#call, begun, 0); } while (0)
+#define TIMED(call) \
+    do { \
+        double begun = now(); \
+        call; \
+        note(#call, begun, 0); \
+    } while (0)
 
 static void begin(const char *servers, const char *match) {
     const char *why = NULL;
     fazgrond_settings session = fazgrond_settings_for(2);
     duel_open(&self.field, 2);
-    faz_cast_settings to = { .servers = servers, .match = match, .me = "me", .game = &duel_game, .opening = &self.field,
-                             .session = &session, .rate = 60 };
+    faz_cast_settings to = {
+        .servers = servers, .match = match, .me = "me", .game = &duel_game, .opening = &self.field, .session = &session, .rate = 60
+    };
     faz_view_settings from = { .servers = servers, .match = match, .game = &duel_game, .from = FAZ_LATEST };
     TIMED(self.cast = faz_cast_open(&to, &why));
     TIMED(self.view = faz_view_open(&from, &why));

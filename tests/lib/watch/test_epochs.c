@@ -65,8 +65,14 @@ static void begin(uint32_t me, const char *broker, const char *name) {
     self->saved[0] = self->now;
     self->came[0] = self->now.field;
     self->bot = duel_bot_of(9, (int)me + 1);
-    self->cast = faz_cast_open(&(faz_cast_settings){ .servers = broker, .match = name, .me = me == 0 ? "one" : "two", .game = &duel_game,
-                                                     .opening = &self->now.field, .session = &settings, .rate = 60, .limit = FRAMES },
+    self->cast = faz_cast_open(&(faz_cast_settings){ .servers = broker,
+                                                     .match = name,
+                                                     .me = me == 0 ? "one" : "two",
+                                                     .game = &duel_game,
+                                                     .opening = &self->now.field,
+                                                     .session = &settings,
+                                                     .rate = 60,
+                                                     .limit = FRAMES },
                                &why);
     MUST(self->cast != NULL);
 }

@@ -28,7 +28,7 @@ static bool is_same(const fazgrond_row *one, const fazgrond_row *other) {
 static void bytes_of_rows(void) {
     static const uint32_t words[] = { 0, 0, 5, 5, 5, 7 };
     static const uint8_t wanted[] = { 0, 0, 0, 15, 'F', 'Z', 'G', '4', 0, 0, 0, 0, 0, 0, 0, 0, 0, 1, /* the first frame; a play */
-                                      1, 0, 0, 1, 6, 0, 1, 0, 6, 0,                        /* its number, counts, offers, no marks */
+                                      1, 0, 0, 1,  6,   0,   1,   0,   6, 0, /* its number, counts, offers, no marks */
                                       2, 5, 2, 7 };
     fazgrond_row rows[6] = { 0 };
     for (uint32_t at = 0; at < 6; at++)

@@ -40,8 +40,10 @@ static void cast(const char *servers) {
     faz_cast_state state;
     duel_open(&opening, 2);
     long begun = now();
-    faz_cast *made = faz_cast_open(&(faz_cast_settings){ .servers = servers, .match = "cup", .me = "me", .game = &duel_game,
-                                                         .opening = &opening, .session = &session, .rate = 60 }, &why);
+    faz_cast *made = faz_cast_open(
+        &(faz_cast_settings){
+            .servers = servers, .match = "cup", .me = "me", .game = &duel_game, .opening = &opening, .session = &session, .rate = 60 },
+        &why);
     CHECK_SAY(made != NULL && now() - begun < TURN, "a match is published at once");
     begun = now();
     for (int frame = 0; frame < 600; frame++)
@@ -56,7 +58,8 @@ static void view(const char *servers) {
     const char *why;
     faz_view_state state;
     long begun = now();
-    faz_view *made = faz_view_open(&(faz_view_settings){ .servers = servers, .match = "cup", .game = &duel_game, .from = FAZ_LATEST }, &why);
+    faz_view *made = faz_view_open(&(faz_view_settings){ .servers = servers, .match = "cup", .game = &duel_game, .from = FAZ_LATEST },
+                                   &why);
     CHECK_SAY(made != NULL && now() - begun < TURN, "a match is watched at once");
     begun = now();
     faz_view_look(made, &state);
@@ -72,7 +75,8 @@ static void refuse(void) {
     for (size_t at = 0; at < sizeof texts / sizeof *texts; at++) {
         const char *why = NULL;
         CHECK_SAY(faz_view_open(&(faz_view_settings){ .servers = texts[at], .match = "cup", .game = &duel_game }, &why) == NULL
-                      && why != NULL, "%s", texts[at]);
+                      && why != NULL,
+                  "%s", texts[at]);
     }
 }
 

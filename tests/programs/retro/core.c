@@ -28,7 +28,10 @@
 
 enum { WIDTH = 64, HEIGHT = 48, SAMPLES = 800, PADS = 8, SAVED = 64 };
 
-static struct state { uint32_t frame, rest, born; uint8_t ram[2048], save[SAVED]; } state;
+static struct state {
+    uint32_t frame, rest, born;
+    uint8_t ram[2048], save[SAVED];
+} state;
 static uint32_t hidden, runs, loads, touched, speed = 1;
 static bool is_loaded;
 static retro_environment_t ask;
@@ -122,9 +125,7 @@ static bool is_helper(void) { return false; }
 static void sleep_for(uint32_t milliseconds) { (void)milliseconds; }
 #else
 static bool is_helper(void) { return gettid() != getpid(); }
-static void sleep_for(uint32_t milliseconds) {
-    nanosleep(&(struct timespec){ milliseconds / 1000, milliseconds % 1000 * 1000000 }, NULL);
-}
+static void sleep_for(uint32_t milliseconds) { nanosleep(&(struct timespec){ milliseconds / 1000, milliseconds % 1000 * 1000000 }, NULL); }
 #endif
 
 /* A helper's frames take longer, if that is asked for. On Windows nothing asks for it. */

@@ -69,8 +69,12 @@ static int make_machine(int number) {
     }
     close(here);
     close(there);
-    return tun >= 0 && run("ip -n faz-%d-%d addr add 10.77.0.%d/24 dev line && ip -n faz-%d-%d link set line up"
-                           " && ip -n faz-%d-%d link set lo up", number) ? tun : -1;
+    return tun >= 0
+            && run("ip -n faz-%d-%d addr add 10.77.0.%d/24 dev line && ip -n faz-%d-%d link set line up"
+                   " && ip -n faz-%d-%d link set lo up",
+                   number)
+        ? tun
+        : -1;
 }
 
 /* Behind all that are due no later. */

@@ -1,3 +1,4 @@
+# shellcheck shell=sh
 # For what plays games of consoles: sourced at the top, after tests/checks.sh. Programs are those of the folder OUT.
 OUT=${OUT:-$PWD/out}
 FAZ_RETRO_HOME=$work
