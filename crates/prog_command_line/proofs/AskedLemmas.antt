@@ -1,17 +1,15 @@
 -- What the matches of a parse ask for.
-use Rattle.std.proofs.Common.{◌≡◌, ◌∙◌, ap, codes, refl, subst, sym, List, [], Option, Some, None}
+use Rattle.std.proofs.Common.{◌≡◌, ap, refl, sym, List, Option, Some, None}
 use Rattle.std.specs.Box.{box_value}
-use Rattle.std.specs.Prelude.{option_map, unwrap_or}
-use Rattle.std.specs.Option.{option_map_or}
-use Rattle.clap.proofs.WalkLemmas.{first_value-rows, raw_values-rows}
-use Rattle.clap.specs.Matches.{first_value, found_of, matched_of, raw_values, subcommand_name_of}
+use Rattle.std.specs.Prelude.{option_map}
+use Rattle.clap.proofs.WalkLemmas.{first_value-rows}
+use Rattle.clap.specs.Matches.{first_value, found_of, subcommand_name_of}
 use Rattle.clap.specs.Simple.{subcommand_rows_of}
 use Rattle.clap.specs.Walk.{Row, Text, rows_of}
 use Rattle.clap.specs.declared.parser.matches.ArgMatches.{ArgMatches}
 use Rattle.clap.specs.declared.parser.matches.ArgMatches.TheViews.{out-ArgMatches, out-SubCommand}
 use Rattle.clap.specs.declared.parser.matches.Found.{Found}
-use Rattle.prog_command_line.specs.Requests.{HasOptions, asked_in, asked_named, picture_in, picture_named, texts_named}
-use Rattle.prog_command_line.specs.declared.request.Request.{Request}
+use Rattle.prog_command_line.specs.Requests.{asked_in, asked_named, picture_in, picture_named}
 
 both_parts : {A X Y : Type 0} (f : A → X) (g : A → Y) (o : Option A) (x : X) (y : Y) → Some x ≡ option_map f o
     → Some y ≡ option_map (λ p. p.1) (option_map (λ a. let p : X × Y = (f a, g a) in p) o) → Some (x, y) ≡ option_map (λ a. let p : X × Y = (f a, g a) in p) o
@@ -38,17 +36,3 @@ asked_of_found name f = ap (asked_named name) (λ i id. first_value-rows f id i)
 -- and which picture its matches ask for
 pub picture_of_found : (name : Text) (f : Found) → picture_named (first_value f) ≡ picture_in (Some (name, rows_of f))
 picture_of_found name f = ap picture_named (λ i id. first_value-rows f id i)
-
--- the values of an option, where it is given, and where it isn't
-pub some_texts : (f : Found) (name : Text) (texts : List Text) → Some texts ≡ option_map raw_values (matched_of f name)
-    → texts_named name (rows_of f) ≡ texts
-some_texts f name texts e = ap (λ (o : Option (List Text)). unwrap_or o []) (sym (e ∙ raw_values-rows f name))
-
-pub no_texts : (f : Found) (name : Text) → None ≡ option_map raw_values (matched_of f name) → texts_named name (rows_of f) ≡ []
-no_texts f name e = ap (λ (o : Option (List Text)). unwrap_or o []) (sym (e ∙ raw_values-rows f name))
-
--- the options of a request, where the command that was met has these rows
-pub options_met : (request : Request) (name : Text) (rows : List Row) (found : Option (Text × List Row)) → Some (name, rows) ≡ found
-    → HasOptions rows request → HasOptions (option_map_or (λ met. met.1) found []) request
-options_met request name rows found is has =
-    subst (λ (o : Option (Text × List Row)). HasOptions (option_map_or (λ met. met.1) o []) request) is has

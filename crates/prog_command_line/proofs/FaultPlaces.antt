@@ -21,7 +21,7 @@ use Rattle.clap.specs.declared.builder.value_parser.ValueParser.TheVariants as p
 use Rattle.clap.specs.declared.error.kind.ErrorKind.{ErrorKind}
 use Rattle.clap.specs.declared.error.kind.ErrorKind.TheVariants as kind
 use Rattle.prog_command_line.proofs.Places.{accepts_same, all_at_home, app_at_home, at_home, by_id, by_index, by_long, by_short, default_same, entered_same, finished_same, home, is_program, met_same, parser_at_home, reacted_same, seek_command, settled_rows_same, shape_at_home, walk_same, walked_same}
-use Rattle.prog_command_line.specs.Commands.{AreGames, AreGuesses, Choices, app_with, rollduel_app}
+use Rattle.prog_command_line.specs.Commands.{AreGames, Choices, app_with, rollduel_app}
 
 kind_of_value : (p : ValueParser) → refused_kind (parser_at_home p) ≡ refused_kind p
 kind_of_value (parser.Names names) = refl
@@ -168,10 +168,10 @@ entered_fault_same app (Some p) =
     let fault : Option Shape → Kinds = λ o. option_map_or (λ s. level_fault s [] nothing_held p.1 false []) o [] in
     seek_command fault fault p.0 refl (λ s. level_same s p.1) app.subs
 
-pub fault_same : (games guesses : Choices) → AreGames games → AreGuesses guesses → (words : List Text) → fault_of (app_with games guesses) words ≡ fault_of rollduel_app words
-fault_same games guesses are_games are_guesses words =
-    let app = built (app_with games guesses) in
+pub fault_same : (games : Choices) → AreGames games → (words : List Text) → fault_of (app_with games) words ≡ fault_of rollduel_app words
+fault_same games are_games words =
+    let app = built (app_with games) in
     let args = drop 1 words in
     let stop = stop_after app.top.rules (names_of app) args in
     sym (ap₂ (λ b ks. level_fault app.top (names_of app) nothing_held args b ks) (ap (λ (o : Option (Text × List Row)). is_some o) (entered_same app stop)) (entered_fault_same app stop))
-    ∙ ap (λ (a : App). fault_of a words) (is_program games guesses are_games are_guesses)
+    ∙ ap (λ (a : App). fault_of a words) (is_program games are_games)

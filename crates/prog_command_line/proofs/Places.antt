@@ -17,7 +17,7 @@ use Rattle.clap.specs.Walk.{nothing_held, option, option_met, option_word, plain
 use Rattle.clap.specs.Walk.{stop_after, subcommand, subcommand_met, subcommand_or_other, takes_several, takes_values, texts, to_positional, trailing, used, used_as, used_by_id, value, values_or_missing, waits, walk, walk_from, walked, walked_from, with_default, word_met}
 use Rattle.clap.specs.declared.builder.value_parser.ValueParser.{ValueParser}
 use Rattle.clap.specs.declared.builder.value_parser.ValueParser.TheVariants as parser
-use Rattle.prog_command_line.specs.Commands.{AreGames, AreGuesses, Choices, app_with, placed, rollduel_app}
+use Rattle.prog_command_line.specs.Commands.{AreGames, Choices, app_with, placed, rollduel_app}
 
 abbrev pub parser_at_home : ValueParser → ValueParser
 parser_at_home (parser.Names names) = parser.Names (placed (texts names.now))
@@ -233,12 +233,11 @@ entered_same app (Some p) =
     seek_command rows rows p.0 refl (λ s. ap (λ (r : List Row). Some (s.name, r)) (rows_same s.rules p.1)) app.subs
 
 -- the program is one at home
-pub is_program : (games guesses : Choices) → AreGames games → AreGuesses guesses → app_with (placed (texts games.now)) (placed (texts guesses.now)) ≡ rollduel_app
-is_program games guesses are_games are_guesses = ap₂ (λ (g q : List Text). app_with (placed g) (placed q)) are_games are_guesses
+pub is_program : (games : Choices) → AreGames games → app_with (placed (texts games.now)) ≡ rollduel_app
+is_program games are_games = ap (λ (g : List Text). app_with (placed g)) are_games
 
-pub subcommand_same : (games guesses : Choices) → AreGames games → AreGuesses guesses → (words : List Text)
-    → subcommand_of (app_with games guesses) words ≡ subcommand_of rollduel_app words
-subcommand_same games guesses are_games are_guesses words =
-    let app = built (app_with games guesses) in
+pub subcommand_same : (games : Choices) → AreGames games → (words : List Text) → subcommand_of (app_with games) words ≡ subcommand_of rollduel_app words
+subcommand_same games are_games words =
+    let app = built (app_with games) in
     sym (entered_same app (stop_after app.top.rules (names_of app) (drop 1 words)))
-    ∙ ap (λ (a : App). subcommand_of a words) (is_program games guesses are_games are_guesses)
+    ∙ ap (λ (a : App). subcommand_of a words) (is_program games are_games)

@@ -15,7 +15,7 @@ use Rattle.clap.specs.Walk.{next, nothing_held, reacted, settled_rows, stop_afte
 use Rattle.clap.specs.declared.builder.action.ArgAction.{ArgAction}
 use Rattle.clap.specs.declared.builder.action.ArgAction.TheVariants.{Set, Append, SetTrue, SetFalse, Count}
 use Rattle.prog_command_line.proofs.Places.{accepts_same, all_at_home, app_at_home, at_home, by_id, by_index, by_long, by_short, entered_same, finished_same, home, is_program, met_same, reacted_same, seek_command, settled_rows_same, shape_at_home, walk_same, walked_same}
-use Rattle.prog_command_line.specs.Commands.{AreGames, AreGuesses, Choices, app_with, rollduel_app}
+use Rattle.prog_command_line.specs.Commands.{AreGames, Choices, app_with, rollduel_app}
 
 value_same : (a : Rule) (v : Text) → value_passes (at_home a) v ≡ value_passes a v
 value_same a v = accepts_same a.ignore_case a.parser v
@@ -148,11 +148,11 @@ entered_takes_same app (Some p) =
     let passes : Option Shape → Bool = λ o. option_map_or (λ s. level_passes s [] nothing_held p.1 false) o true in
     seek_command passes passes p.0 refl (λ s. level_same s p.1) app.subs
 
-pub takes_same : (games guesses : Choices) → AreGames games → AreGuesses guesses → (words : List Text) → takes (app_with games guesses) words ≡ takes rollduel_app words
-takes_same games guesses are_games are_guesses words =
-    let app = built (app_with games guesses) in
+pub takes_same : (games : Choices) → AreGames games → (words : List Text) → takes (app_with games) words ≡ takes rollduel_app words
+takes_same games are_games words =
+    let app = built (app_with games) in
     let args = drop 1 words in
     let stop = stop_after app.top.rules (names_of app) args in
     sym (ap₂ (λ a b. a && level_passes app.top (names_of app) nothing_held args b) (entered_takes_same app stop)
     (ap (λ (o : Option (Text × List Row)). is_some o) (entered_same app stop)))
-    ∙ ap (λ (a : App). takes a words) (is_program games guesses are_games are_guesses)
+    ∙ ap (λ (a : App). takes a words) (is_program games are_games)

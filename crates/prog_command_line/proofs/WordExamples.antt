@@ -7,11 +7,11 @@ use Rattle.clap.specs.Takes.{takes}
 use Rattle.clap.specs.declared.error.kind.ErrorKind.TheVariants.{DisplayHelp, DisplayVersion, InvalidSubcommand, InvalidValue, MissingRequiredArgument, UnknownArgument, ValueValidation}
 use Rattle.prog_command_line.specs.Commands.{Choices, app_with, rollduel_app}
 
-pub simple : (games guesses : Choices) → is_simple (app_with games guesses) ≡ true
-simple games guesses = refl
+pub simple : (games : Choices) → is_simple (app_with games) ≡ true
+simple games = refl
 
-pub free : (games guesses : Choices) → is_simple_and_free (app_with games guesses) ≡ true
-free games guesses = refl
+pub free : (games : Choices) → is_simple_and_free (app_with games) ≡ true
+free games = refl
 
 pub takes_nothing : takes rollduel_app (codes "rollduel" ∷ []) ≡ true
 unfolding clap_on_literals
@@ -68,14 +68,6 @@ nine_frames_fault = refl
 pub five_workers_fault : fault_of rollduel_app (codes "rollduel" ∷ codes "live" ∷ codes "a" ∷ codes "--workers" ∷ codes "5" ∷ []) ≡ ValueValidation ∷ []
 unfolding clap_on_literals
 five_workers_fault = refl
-
-pub nine_peers_fault : fault_of rollduel_app (codes "rollduel" ∷ codes "match" ∷ codes "--peers" ∷ codes "9" ∷ []) ≡ ValueValidation ∷ []
-unfolding clap_on_literals
-nine_peers_fault = refl
-
-pub stray_file_fault : fault_of rollduel_app (codes "rollduel" ∷ codes "match" ∷ codes "a.roll" ∷ []) ≡ UnknownArgument ∷ []
-unfolding clap_on_literals
-stray_file_fault = refl
 
 pub unexplained_fault : fault_of rollduel_app (codes "rollduel" ∷ codes "live" ∷ codes "a" ∷ codes "--explain" ∷ []) ≡ UnknownArgument ∷ []
 unfolding clap_on_literals

@@ -3,7 +3,7 @@ use Rattle.std.specs.Prelude.{◌≡◌, ◌^◌, ◌-◌, ℕ, List, [], ◌∷
 use Rattle.std.specs.Borrow.{Bor}
 use Rattle.clap.specs.Simple.{App, new_app, new_rule, on_top, with_rule, with_subcommand}
 use Rattle.clap.specs.Walk.{Rule, Text, texts}
-use Rattle.clap.specs.declared.builder.action.ArgAction.TheVariants.{Append, SetTrue}
+use Rattle.clap.specs.declared.builder.action.ArgAction.TheVariants.{SetTrue}
 use Rattle.clap.specs.declared.builder.value_parser.ValueParser.TheVariants as parser
 use Rattle.prog_command_line.specs.declared.commands.Argument.{Argument}
 use Rattle.prog_command_line.specs.declared.commands.Argument.TheVariants as argument
@@ -18,12 +18,6 @@ the_games = codes "tally" ∷ codes "duel" ∷ []
 abbrev pub AreGames : Choices → Type 0
 AreGames games = texts games.now ≡ the_games
 
-abbrev pub the_guesses : List Text
-the_guesses = codes "none" ∷ codes "best" ∷ []
-
-abbrev pub AreGuesses : Choices → Type 0
-AreGuesses guesses = texts guesses.now ≡ the_guesses
-
 -- FILE
 abbrev pub file_rule : Rule
 file_rule = record (new_rule (codes "FILE")) { required = true }
@@ -37,15 +31,6 @@ game_rule games = record (new_rule (codes "game")) {
   parser = Some (parser.Names games);
 }
 
--- --guesses GUESSES
-abbrev pub guesses_rule : Choices → Rule
-guesses_rule guesses = record (new_rule (codes "guesses")) {
-  long = Some (codes "guesses");
-  value_names = 1;
-  defaults = codes "none" ∷ [];
-  parser = Some (parser.Names guesses);
-}
-
 -- an option that takes a number from `least` to `most`
 abbrev pub number_rule : Text → Text → ℕ → ℕ → Rule
 number_rule name default least most = record (new_rule name) {
@@ -55,33 +40,17 @@ number_rule name default least most = record (new_rule name) {
   parser = Some (parser.Unsigned least most);
 }
 
--- an option that takes such a number, and needn't be given
-abbrev pub free_number_rule : Text → ℕ → ℕ → Rule
-free_number_rule name least most = record (new_rule name) {
-  long = Some name;
-  value_names = 1;
-  parser = Some (parser.Unsigned least most);
-}
-
--- --name VALUE, which may be given several times
-abbrev pub several_rule : Text → Rule
-several_rule name = record (new_rule name) {
-  long = Some name;
-  value_names = 1;
-  action = Some Append;
-}
-
 -- --picture FILE
 abbrev pub picture_rule : Rule
 picture_rule = record (new_rule (codes "picture")) { long = Some (codes "picture"); value_names = 1 }
 
 -- an option that takes the number of a frame
 abbrev pub frame_rule : Text → Rule
-frame_rule name = free_number_rule name 0 (2 ^ 32 - 1)
-
--- --picture FILE, --from FRAME, --to FRAME and --tree FRAME
-abbrev pub picture_rules : List Rule
-picture_rules = picture_rule ∷ frame_rule (codes "from") ∷ frame_rule (codes "to") ∷ frame_rule (codes "tree") ∷ []
+frame_rule name = record (new_rule name) {
+  long = Some name;
+  value_names = 1;
+  parser = Some (parser.Unsigned 0 (2 ^ 32 - 1));
+}
 
 -- --explain
 abbrev pub explain_rule : Rule
@@ -91,10 +60,7 @@ explain_rule = record (new_rule (codes "explain")) { long = Some (codes "explain
 abbrev pub rule_for : Argument → Rule
 rule_for (argument.File help) = file_rule
 rule_for (argument.Game games) = game_rule games
-rule_for (argument.Guesses guesses) = guesses_rule guesses
 rule_for (argument.Number name value default least most help) = number_rule name.now default.now least most
-rule_for (argument.FreeNumber name value least most help) = free_number_rule name.now least most
-rule_for (argument.Several name value help) = several_rule name.now
 rule_for argument.Picture = picture_rule
 rule_for (argument.Frame name help) = frame_rule name.now
 rule_for argument.Explain = explain_rule
@@ -105,33 +71,12 @@ with_rules app [] = app
 with_rules app (rule ∷ rules) = with_rules (with_rule app rule) rules
 
 abbrev pub play_app : Choices → App
-play_app games = with_rules (with_rules (new_app (codes "play")) (file_rule ∷ game_rule games ∷ explain_rule ∷ [])) picture_rules
+play_app games = with_rules (new_app (codes "play")) (
+    file_rule ∷ game_rule games ∷ explain_rule ∷ picture_rule ∷
+    frame_rule (codes "from") ∷ frame_rule (codes "to") ∷ frame_rule (codes "tree") ∷ [])
 
 abbrev pub live_app : Choices → App
 live_app games = with_rules (new_app (codes "live")) (file_rule ∷ game_rule games ∷ number_rule (codes "workers") (codes "1") 1 4 ∷ [])
-
--- the command of a match, as far as the players' words and the network go
-abbrev pub line_app : App
-line_app = with_rules (new_app (codes "match")) (
-    number_rule (codes "frames") (codes "1000") 1 1048576 ∷
-    number_rule (codes "seed") (codes "1") 0 (2 ^ 64 - 1) ∷
-    number_rule (codes "late") (codes "8") 0 60 ∷
-    number_rule (codes "lost") (codes "0") 0 99 ∷
-    number_rule (codes "hold") (codes "10") 1 1000000 ∷ [])
-
--- and as far as its sessions go
-abbrev pub sessions_app : Choices → Choices → App
-sessions_app games guesses = with_rules line_app (
-    number_rule (codes "delay") (codes "0") 0 8 ∷
-    number_rule (codes "threshold") (codes "8") 1 15 ∷
-    guesses_rule guesses ∷ free_number_rule (codes "jobs") 1 32 ∷ game_rule games ∷ [])
-
-abbrev pub match_app : Choices → Choices → App
-match_app games guesses = with_rules (with_rules (sessions_app games guesses) (
-    number_rule (codes "peers") (codes "2") 2 8 ∷
-    several_rule (codes "stop") ∷ several_rule (codes "break") ∷ several_rule (codes "heal") ∷
-    several_rule (codes "delay-at") ∷ several_rule (codes "come") ∷ several_rule (codes "split") ∷
-    free_number_rule (codes "hostile") 0 (2 ^ 64 - 1) ∷ free_number_rule (codes "held") 1 8 ∷ [])) picture_rules
 
 abbrev pub synctest_app : Choices → App
 synctest_app games = with_rules (new_app (codes "synctest")) (file_rule ∷ game_rule games ∷ number_rule (codes "frames") (codes "1") 1 8 ∷ explain_rule ∷ [])
@@ -144,14 +89,14 @@ abbrev pub with_version : App → App
 with_version = on_top (λ shape. record shape { has_version = true })
 
 -- the program, with the texts that its options take
-abbrev pub app_with : Choices → Choices → App
-app_with games guesses =
-    with_subcommand (with_subcommand (with_subcommand (with_subcommand (with_subcommand (with_version (new_app (codes "rollduel")))
-    (play_app games).top) (live_app games).top) (match_app games guesses).top) (synctest_app games).top) certify_app.top
+abbrev pub app_with : Choices → App
+app_with games =
+    with_subcommand (with_subcommand (with_subcommand (with_subcommand (with_version (new_app (codes "rollduel")))
+    (play_app games).top) (live_app games).top) (synctest_app games).top) certify_app.top
 
 -- texts at some place: where they stand changes nothing
 abbrev pub placed : List Text → Choices
 placed names = record { ref_ptr = (0, 0); now = map (λ name. record { ref_ptr = (0, 0); now = name }) names }
 
 abbrev pub rollduel_app : App
-rollduel_app = app_with (placed the_games) (placed the_guesses)
+rollduel_app = app_with (placed the_games)

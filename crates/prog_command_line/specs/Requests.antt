@@ -1,26 +1,21 @@
 -- What the words ask for.
-use Rattle.std.specs.Prelude.{◌≡◌, ◌≤◌, ◌+◌, ◌-◌, ◌^◌, ◌&&◌, ◌||◌, ℕ, Bool, false, List, [], Option, None, Some, ⊤, codes, if◌then◌else◌, is_some, map, min, nat_le, nat_lt, not, option_and_then, option_map, unwrap_or}
-use Rattle.std.specs.Option.{option_map_or}
+use Rattle.std.specs.Prelude.{◌≡◌, ◌≤◌, ◌+◌, ◌-◌, ◌^◌, ◌&&◌, ◌||◌, ℕ, Bool, false, List, Option, None, Some, ⊤, codes, if◌then◌else◌, is_some, min, nat_le, nat_lt, option_and_then, option_map, unwrap_or}
 use Rattle.std.specs.Str.{bytes_eq}
 use Rattle.std.specs.Str.Parse.{digits_value, without_leading_plus}
 use Rattle.clap.specs.Simple.{subcommand_of}
 use Rattle.clap.specs.ValueTests.{is_numeral}
-use Rattle.clap.specs.Walk.{Row, Text, all_of, byte_or_zero, first_of}
+use Rattle.clap.specs.Walk.{Row, Text, byte_or_zero, first_of}
 use Rattle.prog_command_line.specs.Commands.{rollduel_app}
 use Rattle.prog_command_line.specs.declared.picture.OptionFault.{OptionFault}
-use Rattle.prog_command_line.specs.declared.picture.OptionFault.TheVariants.{FromPastEnd, ManyFrames, NoFrames, NoGuesses, NoPicture, ToPastEnd, TreePastEnd}
+use Rattle.prog_command_line.specs.declared.picture.OptionFault.TheVariants.{ManyFrames, NoFrames, NoPicture}
 use Rattle.prog_command_line.specs.declared.picture.PictureRequest.{PictureRequest}
 use Rattle.prog_command_line.specs.declared.picture.PictureWindow.{PictureWindow}
 use Rattle.prog_command_line.specs.declared.picture.TheConstants.{FRAME_LIMIT}
 use Rattle.prog_command_line.specs.declared.request.Game.{Game}
 use Rattle.prog_command_line.specs.declared.request.Game.TheVariants.{Tally, Duel}
-use Rattle.prog_command_line.specs.declared.request.GuessOption.{GuessOption}
-use Rattle.prog_command_line.specs.declared.request.GuessOption.TheVariants.{Best, Off}
 use Rattle.prog_command_line.specs.declared.request.Input.{Input}
 use Rattle.prog_command_line.specs.declared.request.Input.TheVariants.{Standard, File}
 use Rattle.prog_command_line.specs.declared.request.LiveOptions.{LiveOptions}
-use Rattle.prog_command_line.specs.declared.request.MatchRequest.{MatchRequest}
-use Rattle.prog_command_line.specs.declared.request.PeersRequest.{PeersRequest}
 use Rattle.prog_command_line.specs.declared.request.Request.{Request}
 use Rattle.prog_command_line.specs.declared.request.Request.TheVariants as request
 use Rattle.prog_command_line.specs.declared.request.TextTask.{TextTask}
@@ -40,11 +35,6 @@ path_named (Some value) = if bytes_eq value (codes "-") then None else Some valu
 abbrev pub game_named : Option Text → Game
 game_named None = Tally
 game_named (Some value) = if bytes_eq value (codes "duel") then Duel else Tally
-
--- the guesses that the value of --guesses names
-abbrev pub guesses_named : Option Text → GuessOption
-guesses_named None = Off
-guesses_named (Some value) = if bytes_eq value (codes "best") then Best else Off
 
 -- the number that the value of --frames names in decimal; what names none below 256, and no parse takes, counts as 0
 abbrev pub frames_named : Option Text → ℕ
@@ -86,21 +76,6 @@ live_named value = record { game = game_named (value (codes "game")); workers = 
 abbrev pub frame_named : Option Text → Option ℕ
 frame_named = option_map (number_in 32)
 
--- how a match is to be played
-abbrev pub options_named : (Text → Option Text) → MatchRequest
-options_named value = record {
-  frames = number_named 32 (value (codes "frames"));
-  seed = number_named 64 (value (codes "seed"));
-  late = number_named 32 (value (codes "late"));
-  lost = number_named 32 (value (codes "lost"));
-  hold = number_named 32 (value (codes "hold"));
-  delay = number_named 32 (value (codes "delay"));
-  threshold = number_named 32 (value (codes "threshold"));
-  guesses = guesses_named (value (codes "guesses"));
-  jobs = unwrap_or (frame_named (value (codes "jobs"))) 4;
-  game = game_named (value (codes "game"));
-}
-
 -- the frame after the last one of a picture that begins at this frame, if none is named
 abbrev pub end_after : ℕ → ℕ
 end_after from = min (from + FRAME_LIMIT) (2 ^ 32 - 1)
@@ -128,57 +103,28 @@ abbrev pub names_part : (Text → Option Text) → Bool
 names_part value =
     is_some (value (codes "from")) || (is_some (value (codes "to")) || is_some (value (codes "tree")))
 
--- why no saved states of a frame are shown, if one is named, of a match of so many: it has no such frame
-abbrev pub tree_fault : Option ℕ → ℕ → Option OptionFault
-tree_fault None frames = None
-tree_fault (Some tree) frames = if nat_lt frames tree then Some (TreePastEnd tree frames) else None
-
--- the same of the frame after the last one of a picture, if it is named, and else this
-abbrev pub to_fault : Option ℕ → ℕ → Option OptionFault → Option OptionFault
-to_fault None frames other = other
-to_fault (Some to) frames other = if nat_lt frames to then Some (ToPastEnd to frames) else other
-
--- why no picture of a match of so many frames shows this, where this end is named
-abbrev pub end_fault : PictureWindow → Option ℕ → ℕ → Option OptionFault
-end_fault window to frames =
-    if nat_le frames window.from then Some (FromPastEnd window.from frames)
-    else to_fault to frames (tree_fault window.tree frames)
-
--- why no picture shows this, of a match of so many frames if it is one: it has no frame, or too many, or the match ends before
-abbrev pub window_fault : PictureWindow → Option ℕ → Option ℕ → Option OptionFault
-window_fault window to frames =
+-- why no picture shows this: it has no frame, or too many
+abbrev pub window_fault : PictureWindow → Option OptionFault
+window_fault window =
     if nat_le window.to window.from then Some NoFrames else
-    (if nat_lt FRAME_LIMIT (window.to - window.from) then Some (ManyFrames window.from window.to) else
-    option_and_then (end_fault window to) frames)
+    (if nat_lt FRAME_LIMIT (window.to - window.from) then Some (ManyFrames window.from window.to) else None)
 
--- whether guesses are asked for
-abbrev pub is_best : Option Text → Bool
-is_best None = false
-is_best (Some value) = bytes_eq value (codes "best")
-
-abbrev pub makes_guesses : (Text → Option Text) → Bool
-makes_guesses value = is_best (value (codes "guesses"))
-
--- why what options say can't be followed: there are jobs and no guesses, a picture that can't be drawn, or a part of no picture
+-- why what options say can't be followed: a picture that can't be drawn, or a part of no picture
 abbrev pub option_fault : (Text → Option Text) → Option OptionFault
 option_fault value =
-    if is_some (value (codes "jobs")) && not (makes_guesses value) then Some NoGuesses else
-    (if is_some (value (codes "picture"))
-    then window_fault (window_named value) (frame_named (value (codes "to"))) (frame_named (value (codes "frames")))
-    else (if names_part value then Some NoPicture else None))
+    if is_some (value (codes "picture")) then window_fault (window_named value)
+    else (if names_part value then Some NoPicture else None)
 
 -- what is asked for: something with a text, the path of which is none where it is standard input, and whether that is
--- to be explained; a script that is played live; a match; or nothing, for what options say can't be followed
+-- to be explained; a script that is played live; or nothing, for what is said of a picture can't be followed
 pub data Asked : Type 0 where
   on_text : Option Text → TextTask → Bool → Asked
   live : Option Text → LiveOptions → Asked
-  «match» : Asked
   refused : OptionFault → Asked
 
 abbrev pub asked_of : Request → Asked
 asked_of (request.Text asked) = on_text (path_of asked.input) asked.task asked.explain
 asked_of (request.Live input how) = live (path_of input) how
-asked_of (request.Match options) = «match»
 asked_of (request.Refused fault) = refused fault
 
 -- there are 1 to 4 workers
@@ -186,34 +132,12 @@ abbrev pub HasWorkers : Request → Type 0
 HasWorkers (request.Live input how) = (1 ≤ how.workers) × (how.workers ≤ 4)
 HasWorkers _ = ⊤
 
--- the values of an option that may be given several times
-abbrev pub texts_named : (name : Text) → List Row → List Text
-texts_named name rows = unwrap_or (all_of name rows) []
-
--- the options of a match are those that the arguments name
-pub record AreAsked (rows : List Row) (options : PeersRequest) : Type 0 where
-  pub machines : options.machines ≡ number_named 8 (first_of (codes "peers") rows)
-  pub common : options.common ≡ options_named (λ name. first_of name rows)
-  pub stops : map (λ text. text.now) options.stops.items ≡ texts_named (codes "stop") rows
-  pub breaks : map (λ text. text.now) options.breaks.items ≡ texts_named (codes "break") rows
-  pub heals : map (λ text. text.now) options.heals.items ≡ texts_named (codes "heal") rows
-  pub delays : map (λ text. text.now) options.delays.items ≡ texts_named (codes "delay-at") rows
-  pub comes : map (λ text. text.now) options.comes.items ≡ texts_named (codes "come") rows
-  pub splits : map (λ text. text.now) options.splits.items ≡ texts_named (codes "split") rows
-  pub hostile : options.hostile ≡ option_map (number_in 64) (first_of (codes "hostile") rows)
-  pub held : options.held ≡ option_map (number_in 8) (first_of (codes "held") rows)
-
-abbrev pub HasOptions : List Row → Request → Type 0
-HasOptions rows (request.Match options) = AreAsked rows options
-HasOptions rows _ = ⊤
-
 -- what the command of this name asks for, but for a picture
 abbrev pub work_named : Text → (Text → Option Text) → Asked
 work_named name value = if bytes_eq name (codes "live") then live (path_named (value (codes "FILE"))) (live_named value)
-    else (if bytes_eq name (codes "match") then «match»
-    else on_text (path_named (value (codes "FILE"))) (task_named name (value (codes "game")) (value (codes "frames"))) (is_named (value (codes "explain"))))
+    else on_text (path_named (value (codes "FILE"))) (task_named name (value (codes "game")) (value (codes "frames"))) (is_named (value (codes "explain")))
 
--- the same, unless what options say can't be followed
+-- the same, unless what is said of a picture can't be followed
 abbrev pub unless : Option OptionFault → Asked → Asked
 unless None asked = asked
 unless (Some fault) asked = refused fault
@@ -237,11 +161,3 @@ picture_in = option_and_then (λ met. picture_named (λ name. first_of name met.
 -- the picture that the words ask for
 abbrev pub picture_by : List Text → Option Picture
 picture_by words = picture_in (subcommand_of rollduel_app words)
-
--- the arguments of a command, or none
-abbrev pub rows_in : Option (Text × List Row) → List Row
-rows_in found = option_map_or (λ met. met.1) found []
-
--- the arguments of the command that the words name
-abbrev pub rows_by : List Text → List Row
-rows_by words = rows_in (subcommand_of rollduel_app words)

@@ -2,8 +2,8 @@
 ghost use Rattle.std.specs.Prelude.{◌≡◌, false, IfOk, IsOkAnd, map};
 ghost use Rattle.clap.specs.declared.builder.command.Command.TheViews.{out-Command as fields_of};
 ghost use Rattle.clap.specs.Words.{app_of, new_app, rule_of, with_subcommand};
-ghost use Rattle.prog_command_line.specs.Commands.{AreGames, AreGuesses, app_with, certify_app, line_app, live_app, match_app, play_app, sessions_app, synctest_app, with_rules};
-ghost use Rattle.prog_command_line.specs.Commands.{explain_rule, file_rule, frame_rule, free_number_rule, game_rule, guesses_rule, number_rule, picture_rule, picture_rules, rule_for, several_rule};
+ghost use Rattle.prog_command_line.specs.Commands.{AreGames, app_with, certify_app, live_app, play_app, synctest_app, with_rules};
+ghost use Rattle.prog_command_line.specs.Commands.{explain_rule, file_rule, frame_rule, game_rule, number_rule, picture_rule, rule_for};
 
 use crate::help;
 use clap::builder::ValueParser;
@@ -22,40 +22,6 @@ pub const EXPLAIN: &str = "explain";
 
 pub const WORKERS: &str = "workers";
 
-pub const SEED: &str = "seed";
-
-pub const LATE: &str = "late";
-
-pub const LOST: &str = "lost";
-
-pub const HOLD: &str = "hold";
-
-pub const JOBS: &str = "jobs";
-
-pub const DELAY: &str = "delay";
-
-pub const THRESHOLD: &str = "threshold";
-
-pub const GUESSES: &str = "guesses";
-
-pub const PEERS: &str = "peers";
-
-pub const STOP: &str = "stop";
-
-pub const BREAK: &str = "break";
-
-pub const HEAL: &str = "heal";
-
-pub const DELAY_AT: &str = "delay-at";
-
-pub const COME: &str = "come";
-
-pub const SPLIT: &str = "split";
-
-pub const HOSTILE: &str = "hostile";
-
-pub const HELD: &str = "held";
-
 pub const PICTURE: &str = "picture";
 
 pub const FROM: &str = "from";
@@ -71,13 +37,6 @@ pub fn games() -> &'static [&'static str]
     ["tally", "duel"].as_slice()
 }
 
-/// What `--guesses` takes.
-pub fn guesses() -> &'static [&'static str]
-    ensures { AreGuesses result }
-{
-    ["none", "best"].as_slice()
-}
-
 /// An argument that a command takes.
 #[derive(Clone, Copy)]
 pub enum Argument<'a> {
@@ -85,15 +44,9 @@ pub enum Argument<'a> {
     File(&'a str),
     /// `--game GAME`, which is one of these.
     Game(&'a [&'a str]),
-    /// `--guesses GUESSES`, which is one of these.
-    Guesses(&'a [&'a str]),
     /// `--name N`: the name, what stands for the number in help, its default, the least and the most that it may be, and
     /// its help.
     Number(&'a str, &'a str, &'a str, u64, u64, &'a str),
-    /// The same without a default: it needn't be given.
-    FreeNumber(&'a str, &'a str, u64, u64, &'a str),
-    /// `--name VALUE`, which may be given several times: the name, what stands for the value in the help, and the help.
-    Several(&'a str, &'a str, &'a str),
     /// `--picture FILE`.
     Picture,
     /// `--name FRAME`, which needn't be given: the name and its help.
@@ -107,9 +60,8 @@ pub fn program_command<'a>(
     alloc: Global,
     script: &'a str,
     games: &'a [&'a str],
-    guesses: &'a [&'a str],
 ) -> Result<Command<'a>, AllocError>
-    ensures { IfOk result (λ command. app_of command ≡ app_with games.entry guesses.entry) }
+    ensures { IfOk result (λ command. app_of command ≡ app_with games.entry) }
 {
     let program = Command::new(alloc, "rollduel")
         .version(help::VERSION)
@@ -117,7 +69,6 @@ pub fn program_command<'a>(
         .after_help(script);
     let program = with_command(program, play_command(alloc, script, games))?;
     let program = with_command(program, live_command(alloc, games))?;
-    let program = with_command(program, match_command(alloc, games, guesses))?;
     let program = with_command(program, synctest_command(alloc, games))?;
     with_command(program, certify_command(alloc))
 }
@@ -147,10 +98,13 @@ fn play_command<'a>(
         Argument::File("The script; - is standard input"),
         Argument::Game(games),
         Argument::Explain,
+        Argument::Picture,
+        Argument::Frame(FROM, help::FROM),
+        Argument::Frame(TO, help::TO),
+        Argument::Frame(TREE, help::TREE),
     ];
     let command = new_command(alloc, "play", help::PLAY, script);
-    let command = with_arguments(alloc, command, &arguments)?;
-    with_picture(alloc, command)
+    with_arguments(alloc, command, &arguments)
 }
 
 fn live_command<'a>(alloc: Global, games: &'a [&'a str]) -> Result<Command<'a>, AllocError>
@@ -163,66 +117,6 @@ fn live_command<'a>(alloc: Global, games: &'a [&'a str]) -> Result<Command<'a>, 
         Argument::Number(WORKERS, "N", "1", 1, 4, help::WORKERS),
     ];
     let command = new_command(alloc, "live", help::LIVE, help::LIVE_SCRIPT);
-    with_arguments(alloc, command, &arguments)
-}
-
-fn match_command<'a>(
-    alloc: Global,
-    games: &'a [&'a str],
-    guesses: &'a [&'a str],
-) -> Result<Command<'a>, AllocError>
-    ensures app { IfOk result (λ command. app_of command ≡ match_app games.entry guesses.entry) }
-    ensures local { IfOk result (λ command. (fields_of command).has_globals ≡ false) }
-{
-    let arguments = [
-        Argument::Number(PEERS, "N", "2", 2, 8, help::PEERS),
-        Argument::Several(STOP, "M:FRAME", help::STOP),
-        Argument::Several(BREAK, "A-B:FRAME", help::BREAK),
-        Argument::Several(HEAL, "A-B:FRAME", help::HEAL),
-        Argument::Several(DELAY_AT, "M:D:FRAME", help::DELAY_AT),
-        Argument::Several(COME, "M:FRAME", help::COME),
-        Argument::Several(SPLIT, "M:FRAME", help::SPLIT),
-        Argument::FreeNumber(HOSTILE, "SEED", 0, u64::MAX, help::HOSTILE),
-        Argument::FreeNumber(HELD, "TURNS", 1, 8, help::HELD),
-    ];
-    let command = sessions_command(alloc, games, guesses)?;
-    let command = with_arguments(alloc, command, &arguments)?;
-    with_picture(alloc, command)
-}
-
-/// The command of a match, as far as its sessions go.
-fn sessions_command<'a>(
-    alloc: Global,
-    games: &'a [&'a str],
-    guesses: &'a [&'a str],
-) -> Result<Command<'a>, AllocError>
-    ensures app { IfOk result (λ command. app_of command ≡ sessions_app games.entry guesses.entry) }
-    ensures local { IfOk result (λ command. (fields_of command).has_globals ≡ false) }
-{
-    let arguments = [
-        Argument::Number(DELAY, "D", "0", 0, 8, help::DELAY),
-        Argument::Number(THRESHOLD, "K", "8", 1, 15, help::THRESHOLD),
-        Argument::Guesses(guesses),
-        Argument::FreeNumber(JOBS, "J", 1, 32, help::JOBS),
-        Argument::Game(games),
-    ];
-    let command = line_command(alloc)?;
-    with_arguments(alloc, command, &arguments)
-}
-
-/// The command of a match, as far as the players' words and the network go.
-fn line_command<'a>(alloc: Global) -> Result<Command<'a>, AllocError>
-    ensures app { IfOk result (λ command. app_of command ≡ line_app) }
-    ensures local { IfOk result (λ command. (fields_of command).has_globals ≡ false) }
-{
-    let arguments = [
-        Argument::Number(FRAMES, "N", "1000", 1, 1_048_576, help::LENGTH),
-        Argument::Number(SEED, "S", "1", 0, u64::MAX, help::SEED),
-        Argument::Number(LATE, "L", "8", 0, 60, help::LATE),
-        Argument::Number(LOST, "P", "0", 0, 99, help::LOST),
-        Argument::Number(HOLD, "H", "10", 1, 1_000_000, help::HOLD),
-    ];
-    let command = new_command(alloc, "match", help::MATCH, help::MATCH_TABLE);
     with_arguments(alloc, command, &arguments)
 }
 
@@ -252,22 +146,6 @@ fn certify_command<'a>(alloc: Global) -> Result<Command<'a>, AllocError>
     with_arguments(alloc, command, &arguments)
 }
 
-/// A command with the options of a picture besides.
-fn with_picture<'a>(alloc: Global, command: Command<'a>) -> Result<Command<'a>, AllocError>
-    ensures app { IfOk result (λ more. app_of more ≡ with_rules (app_of command.entry)
-        picture_rules) }
-    ensures local { IfOk result (λ more. (fields_of more).has_globals ≡
-        (fields_of command.entry).has_globals) }
-{
-    let arguments = [
-        Argument::Picture,
-        Argument::Frame(FROM, help::FROM),
-        Argument::Frame(TO, help::TO),
-        Argument::Frame(TREE, help::TREE),
-    ];
-    with_arguments(alloc, command, &arguments)
-}
-
 /// A command with these arguments besides.
 fn with_arguments<'a>(
     alloc: Global,
@@ -294,14 +172,9 @@ fn arg_of<'a>(alloc: Global, argument: &Argument<'a>) -> Arg<'a>
     match *argument {
         Argument::File(help) => file_arg(alloc, help),
         Argument::Game(games) => game_arg(alloc, games),
-        Argument::Guesses(guesses) => guesses_arg(alloc, guesses),
         Argument::Number(name, value, default, least, most, help) => {
             number_arg(alloc, name, value, default, least, most, help)
         }
-        Argument::FreeNumber(name, value, least, most, help) => {
-            free_number_arg(alloc, name, value, least, most, help)
-        }
-        Argument::Several(name, value, help) => several_arg(alloc, name, value, help),
         Argument::Picture => picture_arg(alloc),
         Argument::Frame(name, help) => frame_arg(alloc, name, help),
         Argument::Explain => explain_arg(alloc),
@@ -335,18 +208,6 @@ fn game_arg<'a>(alloc: Global, games: &'a [&'a str]) -> Arg<'a>
         .help("tally adds words up; duel has a ship for each of 2 to 4 players")
 }
 
-fn guesses_arg<'a>(alloc: Global, guesses: &'a [&'a str]) -> Arg<'a>
-    ensures rule { rule_of result ≡ guesses_rule guesses.entry }
-    ensures local { result.global ≡ false }
-{
-    Arg::new(alloc, GUESSES)
-        .long(GUESSES)
-        .value_name("GUESSES")
-        .value_parser(guesses)
-        .default_value("none")
-        .help("Which of the others' next words are guessed: none, or the best guesses of them")
-}
-
 /// `--name N`, a number from `least` to `most`.
 fn number_arg<'a>(
     alloc: Global,
@@ -368,37 +229,6 @@ fn number_arg<'a>(
         .help(help)
 }
 
-/// `--name N`, a number from `least` to `most`, which needn't be given.
-fn free_number_arg<'a>(
-    alloc: Global,
-    name: &'a str,
-    value: &'a str,
-    least: u64,
-    most: u64,
-    help: &'a str,
-) -> Arg<'a>
-    ensures rule { rule_of result ≡ free_number_rule name.entry.now least most }
-    ensures local { result.global ≡ false }
-{
-    Arg::new(alloc, name)
-        .long(name)
-        .value_name(value)
-        .value_parser(ValueParser::unsigned(least, most))
-        .help(help)
-}
-
-/// `--name VALUE`, which may be given several times.
-fn several_arg<'a>(alloc: Global, name: &'a str, value: &'a str, help: &'a str) -> Arg<'a>
-    ensures rule { rule_of result ≡ several_rule name.entry.now }
-    ensures local { result.global ≡ false }
-{
-    Arg::new(alloc, name)
-        .long(name)
-        .value_name(value)
-        .action(ArgAction::Append)
-        .help(help)
-}
-
 /// `--picture FILE`.
 fn picture_arg<'a>(alloc: Global) -> Arg<'a>
     ensures rule { rule_of result ≡ picture_rule }
@@ -415,7 +245,11 @@ fn frame_arg<'a>(alloc: Global, name: &'a str, help: &'a str) -> Arg<'a>
     ensures rule { rule_of result ≡ frame_rule name.entry.now }
     ensures local { result.global ≡ false }
 {
-    free_number_arg(alloc, name, "FRAME", 0, u64::from(u32::MAX), help)
+    Arg::new(alloc, name)
+        .long(name)
+        .value_name("FRAME")
+        .value_parser(ValueParser::unsigned(0, u64::from(u32::MAX)))
+        .help(help)
 }
 
 fn explain_arg<'a>(alloc: Global) -> Arg<'a>

@@ -3,13 +3,12 @@
 pub const VERSION: &str = "0.2.0";
 
 pub const PROGRAM: &str = "\
-Plays scripts and matches of rollback sessions, tests games, and checks the claims of rollbacks.
+Plays scripts of rollback sessions, tests games, and checks the claims of rollbacks.
 
 A rollback session keeps a game for several players going while inputs of remote players are
 under way: it predicts them, and where a prediction turns out wrong, it goes back and runs those
 frames again. A script stands for the players and the network, so that this can be followed line
-by line. Without a command a script is read from standard input, and the game is tally. A match is
-played without a script, by machines with a bad network between them: `rollduel match --help` tells how.
+by line. Without a command a script is read from standard input, and the game is tally.
 
 A game for such a session has to come out the same each time that frames are run again. A sync test
 looks for one that doesn't: `rollduel synctest --help` tells how.
@@ -116,134 +115,6 @@ is unreadable, memory runs out, a thread can't be started, or the answers can't 
 
 pub const WORKERS: &str = "How many worker threads there are, from 1 to 4";
 
-pub const MATCH: &str = "Plays a match over a bad network, and prints what its rollbacks cost";
-
-pub const MATCH_TABLE: &str = "\
-N machines play one game in this process, as over a network. They are numbered from 0, and machine M has
-player M + 1: its session has this player's words, and its peer tells them to the others by datagrams, and
-hears theirs. The players' words and what becomes of the datagrams are drawn from the seed. In each tick, of
-which there are 60 a second, a machine hears the datagrams that have come, and gives its own word, unless it
-is too far ahead of the others' words, or its peer advises it to wait for them. It runs frames again where a
-word had been predicted wrong, and goes on to the next frame. Then, if it is to guess, it runs ahead what the
-other players may do next: where the words come so, nothing needs to be run again. At last it
-sends a datagram to each other.
-
-A datagram comes 1 to L + 1 ticks late, P in 100 are lost, and 5 in 100 of the others come twice, all out of
-order. What was in a lost one comes with the next that arrives. The guesses are:
-
-  none     none
-  best     those of all others' words that are likely to save the most frames, by what was seen of the players
-           in this match: `--jobs J` of them a tick, for as long as it takes to run them
-
-Three tables are printed, with a line for each machine. The first says what it played:
-
-  frames         the frames that it played
-  settled        how many of them are settled: all words are known, so that they can't change any more
-  waited         in how many ticks it waited: too far ahead of the others' words, or as its peer advised
-  silent at      the frame at which it was to go silent
-  left at        the frame at which its player left
-  sent           how many datagrams it sent
-
-The second says what its rollbacks cost:
-
-  rollbacks      how often it ran frames again, since a word had been predicted wrong
-  run again      how many frames were run again in all of them
-  by GGPO        how many GGPO runs again, from the first frame on that was predicted wrong
-  deepest        the most frames that one rollback ran again
-  claims         how many claims of rollbacks and steps were checked: that none ran a frame too many
-  wrong          how many of those were wrong: none can be
-  jobs           how many jobs its guesses gave
-  taken          how many of their branches were taken in
-  run ahead      how many frames were run ahead for them
-
-The third says what was measured of all others: the bytes that it sent to each of them in a second, the
-datagrams that it heard, that it missed, and that came and weren't heard, and the round trip. Then comes
-whether all machines that stay agree: the same settled rows, the same state, and each player gone at the same
-frame; and at last a line of all numbers for scripts: name=value, or name=first,second,.. for all machines.
-
-A delay over 8, or a threshold of 0 or over 8 (over 15 from five machines on), is answered by `refused 11`: no
-session starts with it. A log that is full, at 16777216 entries, is answered by `refused 114`.
-
-Example:
-
-  rollduel match --frames 60 --seed 3 --lost 10 --guesses best
-
-It prints, and after it the line for scripts:
-
-  2 machines, 60 frames of tally, seed 3
-  datagrams 1 to 9 ticks late, 10 in 100 lost; words held 10 frames on average
-  delay 0, threshold 8, guesses best, 4 jobs a tick
-
-  machine    frames   settled    waited  silent at   left at      sent
-  0              60        60         0          -         -        82
-  1              60        60         7          -         -        82
-
-  machine rollbacks  run again   by GGPO   deepest    claims     wrong      jobs     taken  run ahead
-  0               1          1         8         1        63         0       151       151       1007
-  1               1          2        27         2        64         0       256       254       1795
-
-  machine  bytes/s to each  received      lost   ignored  round trip
-  0                   1978        77         4         1      167 ms
-  1                   1861        74         0         0      184 ms
-
-  all 2 that stay agree: frame 60 settled, state 111
-
-`--stop M:FRAME` has machine M go silent for ever at that frame: the others notice after some seconds, let its
-player leave, and play on.
-
-`--break A-B:FRAME` breaks the line between machines A and B: from that frame of each on, what one sends the
-other straight doesn't come. Other machines carry it then, so nobody is put out, and the match goes on.
-`--heal A-B:FRAME` mends it again. Each is given once for each line and frame, 8 times at most.
-
-`--delay-at M:D:FRAME` gives machine M's player an input delay of D frames at about that frame: the match goes on
-in another epoch, a few frames later. A line more says at which frames epochs began. It is given 8 times at most.
-With `--come M:FRAME` machine M comes at about that frame: anew if it went silent by `--stop`, and else for the first
-time. Both aren't played with `--guesses`, `--held` or `--hostile`, nor `--come` with `--break`.
-
-With `--hostile SEED` 50 hostile datagrams come before each real one: noise, real ones with a bit
-changed, sealed for another match, or of machines that are gone, and old real ones again. The first two tables
-and the line on who agrees are the same as without. Old ones of machines that stay are heard again, so what was
-measured may differ.
-
-With `--held TURNS` each machine holds words of others back, unless it has no frame to run again for them: a
-second game runs those frames before the next tick, and then the machine hears the words. After so many turns it
-hears them in any case. A table more says how long words were held back:
-
-  words held     how many words of others were, for a turn or more
-  turns each     for how many turns, on average
-  at most 2      how many of a hundred of them were for at most two turns
-  jobs           how many jobs were run for them
-
-With `--picture OUT.svg` the match is drawn too, as the first machine that stays saw it: the players' words
-frame by frame, its rollbacks, and the states that were saved at one of them.
-
-Exit status: 0; 1 where the answer is `refused 11` or `refused 114`, or where machines that stay don't agree, or
-not in time; 2 where memory runs out, the tables or the picture can't be written, or the words ask for no match.";
-
-pub const PEERS: &str = "How many machines there are, 2 to 8; a duel has ships for 4";
-
-pub const STOP: &str =
-    "Machine M goes silent for ever at this frame; for several machines it is given several times";
-
-pub const BREAK: &str =
-    "From this frame on nothing of A's comes to B straight, nor of B's to A; for several lines it is given several times";
-
-pub const HEAL: &str = "From this frame on the line between A and B works again";
-
-pub const SPLIT: &str =
-    "From this frame on machine M and others that are named so hear nothing of the rest, nor the rest of them";
-
-pub const DELAY_AT: &str =
-    "From about this frame on machine M's player has an input delay of D frames; it is given up to 8 times";
-
-pub const COME: &str =
-    "Machine M comes at about this frame: anew after its --stop, or else for the first time";
-
-pub const HOSTILE: &str = "Hostile datagrams come too, drawn from this seed";
-
-pub const HELD: &str =
-    "Words of others are held back for at most so many turns, 1 to 8, until a helper has run their frames";
-
 pub const PICTURE: &str =
     "Draws the play as an SVG into this file; one that is there is overwritten only if it is a picture";
 
@@ -254,24 +125,6 @@ pub const TO: &str =
 
 pub const TREE: &str =
     "Shows the states saved at this frame's rollback; if not given, at the deepest one";
-
-pub const LENGTH: &str = "How many frames each machine plays, up to 1048576";
-
-pub const SEED: &str = "What all is drawn from: the same seed prints the same";
-
-pub const LATE: &str = "A datagram comes 1 to L + 1 ticks late; up to 60";
-
-pub const LOST: &str = "How many datagrams of a hundred are lost, up to 99";
-
-pub const HOLD: &str = "For how many frames a player holds a word on average, up to 1000000";
-
-pub const DELAY: &str = "Each machine's input delay in frames, up to 8";
-
-pub const THRESHOLD: &str =
-    "How many frames a machine may go past the confirmed ones, from 1 to 8, or 15 if there are more than 4";
-
-pub const JOBS: &str =
-    "How many of the best guesses are run in each tick, up to 32; 4 if not given";
 
 pub const SYNCTEST: &str =
     "Tests whether a game comes out the same twice, and prints what is found at each row";

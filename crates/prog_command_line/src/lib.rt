@@ -12,7 +12,4 @@ mod request;
 pub use help::SCRIPT;
 pub use picture::{FRAME_LIMIT, OptionFault, PictureRequest, PictureWindow};
 pub use reading::read;
-pub use request::{
-    CommandLine, Game, GuessOption, Input, LiveOptions, MatchRequest, PeersRequest, Request,
-    TextRequest, TextTask,
-};
+pub use request::{CommandLine, Game, Input, LiveOptions, Request, TextRequest, TextTask};

@@ -1,9 +1,9 @@
 //! The picture that the words ask for.
 ghost use Rattle.std.specs.Prelude.{◌≡◌, is_some, option_map};
 ghost use Rattle.clap.specs.Words.{first_value, found_of};
-ghost use Rattle.prog_command_line.specs.Requests.{end_fault, makes_guesses, names_part, number_in, option_fault, picture_named, picture_of, tree_fault, window_fault, window_named};
+ghost use Rattle.prog_command_line.specs.Requests.{names_part, number_in, option_fault, picture_named, picture_of, window_fault, window_named};
 
-use crate::commands::{FRAMES, FROM, GUESSES, JOBS, PICTURE, TO, TREE};
+use crate::commands::{FROM, PICTURE, TO, TREE};
 use crate::reading::{is_given, number_of};
 use clap::ArgMatches;
 use thiserror::Error;
@@ -31,7 +31,7 @@ pub struct PictureWindow {
     pub tree: Option<u32>,
 }
 
-/// Why what options say can't be followed.
+/// Why what is said of a picture can't be followed.
 #[derive(Clone, Copy, Debug, PartialEq, Eq, Error)]
 pub enum OptionFault {
     /// There is no picture of which this would be a part.
@@ -48,33 +48,6 @@ pub enum OptionFault {
         /// The frame after the last one.
         to: u32,
     },
-    /// The picture would begin past the end of the match.
-    #[error("--from {from}: the match ends at frame {frames}")]
-    FromPastEnd {
-        /// The first frame.
-        from: u32,
-        /// How many frames the match has.
-        frames: u32,
-    },
-    /// The picture would end past the end of the match.
-    #[error("--to {to}: the match ends at frame {frames}")]
-    ToPastEnd {
-        /// The frame after the last one.
-        to: u32,
-        /// How many frames the match has.
-        frames: u32,
-    },
-    /// The saved states of a frame past the end of the match would be shown.
-    #[error("--tree {tree}: the match ends at frame {frames}")]
-    TreePastEnd {
-        /// The frame.
-        tree: u32,
-        /// How many frames the match has.
-        frames: u32,
-    },
-    /// There are no guesses of which so many would be run.
-    #[error("--jobs can't be used without --guesses best")]
-    NoGuesses,
 }
 
 /// The picture that the arguments of a command ask for.
@@ -90,18 +63,12 @@ pub fn picture_of<'a>(found: &ArgMatches<'a>) -> Option<PictureRequest<'a>>
     }
 }
 
-/// Why what the arguments of a command say can't be followed, if it can't.
+/// Why what the arguments of a command say of a picture can't be followed, if it can't.
 pub fn option_fault(found: &ArgMatches<'_>) -> Option<OptionFault>
     ensures { result ≡ option_fault (first_value (found_of found.now)) }
 {
-    if is_given(found, JOBS) && !makes_guesses(found) {
-        Some(OptionFault::NoGuesses)
-    } else if is_given(found, PICTURE) {
-        window_fault(
-            &window_of(found),
-            frame_of(found, TO),
-            frame_of(found, FRAMES),
-        )
+    if is_given(found, PICTURE) {
+        window_fault(&window_of(found))
     } else if names_part(found) {
         Some(OptionFault::NoPicture)
     } else {
@@ -109,49 +76,18 @@ pub fn option_fault(found: &ArgMatches<'_>) -> Option<OptionFault>
     }
 }
 
-/// Why no picture shows this, where this end is named, of a match of so many frames, if it is one.
-fn window_fault(window: &PictureWindow, to: Option<u32>, frames: Option<u32>) -> Option<OptionFault>
-    ensures { result ≡ window_fault window.now to frames }
+/// Why no picture shows this.
+fn window_fault(window: &PictureWindow) -> Option<OptionFault>
+    ensures { result ≡ window_fault window.now }
 {
-    let PictureWindow { from, to: end, .. } = *window;
-    if end <= from {
+    let PictureWindow { from, to, .. } = *window;
+    if to <= from {
         Some(OptionFault::NoFrames)
-    } else if FRAME_LIMIT < end - from {
-        Some(OptionFault::ManyFrames { from, to: end })
+    } else if FRAME_LIMIT < to - from {
+        Some(OptionFault::ManyFrames { from, to })
     } else {
-        end_fault(window, to, frames?)
+        None
     }
-}
-
-/// Why no picture of a match of so many frames shows this.
-fn end_fault(window: &PictureWindow, to: Option<u32>, frames: u32) -> Option<OptionFault>
-    ensures { result ≡ end_fault window.now to frames }
-{
-    let from = window.from;
-    if frames <= from {
-        return Some(OptionFault::FromPastEnd { from, frames });
-    }
-    match to {
-        Some(to) if frames < to => Some(OptionFault::ToPastEnd { to, frames }),
-        _ => tree_fault(window.tree, frames),
-    }
-}
-
-/// Why no saved states of this frame are shown, if it is named, of a match of so many.
-fn tree_fault(tree: Option<u32>, frames: u32) -> Option<OptionFault>
-    ensures { result ≡ tree_fault tree frames }
-{
-    match tree {
-        Some(tree) if frames < tree => Some(OptionFault::TreePastEnd { tree, frames }),
-        _ => None,
-    }
-}
-
-/// Whether any guesses are to be made.
-fn makes_guesses(found: &ArgMatches<'_>) -> bool
-    ensures { result ≡ makes_guesses (first_value (found_of found.now)) }
-{
-    matches!(found.get_str(GUESSES), Some("best"))
 }
 
 /// Whether a part of a picture is named.

@@ -3,7 +3,7 @@
 use crate::picture::{OptionFault, PictureRequest};
 
 /// What the words ask for.
-#[derive(Drop)]
+#[derive(Clone, Copy)]
 pub struct CommandLine<'a> {
     pub request: Request<'a>,
     /// The picture that is to be made of it, if one is.
@@ -11,15 +11,13 @@ pub struct CommandLine<'a> {
 }
 
 /// What is to be done.
-#[derive(Drop)]
+#[derive(Clone, Copy)]
 pub enum Request<'a> {
     /// Something with a text.
     Text(TextRequest<'a>),
     /// A script is to be played live.
     Live { input: Input<'a>, live: LiveOptions },
-    /// A match is to be played, of which nothing is read.
-    Match(PeersRequest<'a>),
-    /// Nothing, for what options say can't be followed.
+    /// Nothing, for what is said of a picture can't be followed.
     Refused(OptionFault),
 }
 
@@ -64,50 +62,4 @@ pub struct LiveOptions {
     pub game: Game,
     /// How many workers there are, 1 to 4.
     pub workers: u8,
-}
-
-/// What `--guesses` names.
-#[derive(Clone, Copy)]
-pub enum GuessOption {
-    Off,
-    Best,
-}
-
-/// How a match is played: its words, its network and its sessions, each option by its name.
-#[derive(Clone, Copy)]
-pub struct MatchRequest {
-    pub frames: u32,
-    pub seed: u64,
-    pub late: u32,
-    pub lost: u32,
-    pub hold: u32,
-    pub delay: u32,
-    pub threshold: u32,
-    pub guesses: GuessOption,
-    pub jobs: u32,
-    pub game: Game,
-}
-
-/// A match: who plays it, and how.
-#[derive(Drop)]
-pub struct PeersRequest<'a> {
-    /// How many machines there are.
-    pub machines: u8,
-    pub common: MatchRequest,
-    /// Each text of `--stop`, in their order.
-    pub stops: Vec<&'a str>,
-    /// Each text of `--break`, in their order.
-    pub breaks: Vec<&'a str>,
-    /// Each text of `--heal`, in their order.
-    pub heals: Vec<&'a str>,
-    /// Each text of `--delay-at`, in their order.
-    pub delays: Vec<&'a str>,
-    /// Each text of `--come`, in their order.
-    pub comes: Vec<&'a str>,
-    /// Each text of `--split`, in their order.
-    pub splits: Vec<&'a str>,
-    /// The seed of the hostile datagrams, if there are any.
-    pub hostile: Option<u64>,
-    /// For how many turns words are held back at most, if they are.
-    pub held: Option<u8>,
 }

@@ -12,7 +12,6 @@ use Rattle.roll_game.specs.declared.counts.Counts.{Counts}
 use Rattle.roll_session.specs.Seen.{Seen, Step}
 use Rattle.roll_session.specs.Started.{first_seen}
 use Rattle.prog_observer.specs.Hearing.{lane_in}
-use Rattle.prog_observer.specs.Changes.{frame_from}
 use Rattle.prog_observer.specs.Observing.{Observed, nothing_seen, tree_of}
 use Rattle.prog_picture.specs.declared.scene.Window.{Window}
 use Rattle.prog_replies.specs.Output.{first_playing, game_from}
@@ -38,12 +37,11 @@ drawn_as settings game core seen last s picture core_is last_is drawn =
     record {
       scene = drawn.scene;
       from = drawn.from ∙ ap (λ (o : Observed). o.window.from) last_is;
-      to = drawn.to ∙ ap (λ (o : Observed). min o.window.to (frame_from o.base o.frame)) last_is;
+      to = drawn.to ∙ ap (λ (o : Observed). min o.window.to o.frame) last_is;
       lanes =
           drawn.lanes ∙ ap (λ (c : Core). map (lane_in (session_at settings game c) last.firsts) last.heard) core_is
           ∙ ap (λ (o : Observed). map (lane_in (session_at settings game core) o.firsts) o.heard) last_is;
       rolls = drawn.rolls ∙ ap (λ (o : Observed). o.rolls) last_is;
-      seams = drawn.seams ∙ ap (λ (o : Observed). o.seams) last_is;
       tree = drawn.tree ∙ ap (λ (o : Observed). option_map tree_of o.sample) last_is;
       drawn = drawn.drawn;
     }

@@ -1,4 +1,3 @@
-pub mod Adding
 pub mod Differing
 pub mod Heeding
 pub mod Mapping

@@ -28,12 +28,11 @@ changed_more f g xs old i d y so_far l long is =
     ∙ sym (append_assoc front (g (f o) ∷ []) back) ∙ ap (λ ys. ys ++ back) (sym changed)
 
 -- there is one more player of whom nothing was heard
-pub hearing_more : (items more : List Hearing) (h : Hearing) (place : ℕ)
-    → more ≡ items ++ h ∷ [] → h.player ≡ place + 1 → h.past.items ≡ [] → h.words.items ≡ [] → h.came.items ≡ [] → h.told.items ≡ []
+pub hearing_more : (items more : List Hearing) (h : Hearing) (place : ℕ) → more ≡ items ++ h ∷ [] → h.player ≡ place + 1 → h.words.items ≡ []
     → map heard_words items ≡ map nothing_heard (range_with_len 1 place)
     → map heard_words more ≡ map nothing_heard (range_with_len 1 (place + 1))
-hearing_more items more h place is player nowhere none uncame untold so_far =
-    let new : heard_words h ≡ nothing_heard (place + 1) = λ i. record { player = player i; past = nowhere i; words = none i; came = uncame i; told = untold i } in
+hearing_more items more h place is player none so_far =
+    let new : heard_words h ≡ nothing_heard (place + 1) = λ i. record { player = player i; words = none i } in
     ap (map heard_words) is ∙ map_push heard_words items h ∙ ap (λ ys. ys ++ heard_words h ∷ []) so_far
     ∙ ap (λ w. map nothing_heard (range_with_len 1 place) ++ w ∷ []) new
     ∙ sym (map-range_with_len_more nothing_heard 1 place (place + 1) (omega arith))

@@ -59,21 +59,3 @@ roll_of at from low before after =
       ggpo = option_map_or (λ (change : Change). at - change.frame) change 0;
       cause = option_map_or cause_of change Nothing;
     }
-
--- a frame of a session before which so many frames were played, as far as the numbers of frames reach
-abbrev pub frame_from : (base frame : ℕ) → ℕ
-frame_from base frame = min (base + frame) (2 ^ 32 - 1)
-
--- a roll of such a session, by all frames
-abbrev pub cause_from : ℕ → Cause → Cause
-cause_from base (Word player frame) = Word player (frame_from base frame)
-cause_from base (Leaving player frame) = Leaving player (frame_from base frame)
-cause_from base Nothing = Nothing
-
-abbrev pub roll_from : ℕ → Roll → Roll
-roll_from base roll = record {
-  at = frame_from base roll.at;
-  rerun = roll.rerun;
-  ggpo = roll.ggpo;
-  cause = cause_from base roll.cause;
-}

@@ -1,5 +1,4 @@
 pub mod Changes
 pub mod Drawing
 pub mod Hearing
-pub mod Holding
 pub mod Observing

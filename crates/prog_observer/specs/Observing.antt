@@ -1,23 +1,19 @@
 -- What is seen of a session while it is played.
-use Rattle.std.specs.Prelude.{◌-◌, ◌&&◌, ◌||◌, ◌==◌, ℕ, List, [], ◌∷◌, ◌++◌, drop, length, map, nat_le, nat_lt, Bool, true, false, Option, None, Some, if◌then◌else◌, slice_get, is_none}
+use Rattle.std.specs.Prelude.{◌-◌, ◌&&◌, ◌||◌, ◌==◌, ℕ, List, [], ◌∷◌, ◌++◌, drop, length, map, nat_le, nat_lt, Bool, true, Option, None, Some, if◌then◌else◌, slice_get, is_none}
 use Rattle.std.specs.List.{range_with_len}
 use Rattle.std.specs.Option.{option_map_or, option_to_list}
 use Rattle.prog_picture.specs.declared.scene.Roll.{Roll}
-use Rattle.prog_picture.specs.declared.scene.Tree.{Tree}
 use Rattle.prog_picture.specs.declared.scene.Window.{Window}
 use Rattle.roll_frame.specs.Cells.{Rows}
 use Rattle.roll_frame.specs.Core.{settled}
 use Rattle.roll_frame.specs.declared.claim.Claim.{Claim}
-use Rattle.roll_frame.specs.declared.entry.Entry.{Entry}
-use Rattle.roll_frame.specs.declared.entry.Entry.TheVariants.{Local, Remote, Disconnect, Sync, Advance, Graft, Partial}
 use Rattle.roll_frame.specs.declared.refusal.Refusal.{Refusal}
 use Rattle.roll_frame.specs.declared.refusal.Refusal.TheVariants.{NoMemory, NoPlan}
 use Rattle.roll_frame.specs.declared.row.Cell.{Cell}
 use Rattle.roll_session.specs.Headline.{last_claim}
 use Rattle.roll_session.specs.Seen.{Seen}
-use Rattle.prog_observer.specs.Changes.{frame_from, roll_from, roll_of, rows_from}
-use Rattle.prog_observer.specs.Hearing.{HeardWords, after_hearing, closed_words, heard_words, nothing_heard}
-use Rattle.prog_observer.specs.declared.hearing.Coming.{Coming}
+use Rattle.prog_observer.specs.Changes.{roll_of, rows_from}
+use Rattle.prog_observer.specs.Hearing.{HeardWords, after_hearing, heard_words, nothing_heard}
 use Rattle.prog_observer.specs.declared.observer.Observer.{Observer}
 use Rattle.prog_observer.specs.declared.observer.Sample.{Sample}
 
@@ -25,8 +21,6 @@ use Rattle.prog_observer.specs.declared.observer.Sample.{Sample}
 pub record Observed : Type 0 where
   -- what is to be shown of it
   pub window : Window
-  -- how many frames were played before it, by sessions in whose place it came
-  pub base : ℕ
   -- its frame, and how many rows were settled after its last roll
   pub frame : ℕ
   pub settled : ℕ
@@ -36,23 +30,19 @@ pub record Observed : Type 0 where
   pub firsts : Rows
   -- the words of each player
   pub heard : List HeardWords
-  -- the rolls, and the frames at which a session came in another one's place, by all frames
   pub rolls : List Roll
-  pub seams : List ℕ
   -- the roll whose saved states are to be shown
   pub sample : Option Sample
 
 abbrev pub observed : Observer → Observed
 observed observer = record {
   window = observer.window;
-  base = observer.base;
   frame = observer.frame;
   settled = observer.settled;
   rows = observer.rows.items;
   firsts = observer.firsts.items;
   heard = map heard_words observer.hearings.items;
   rolls = observer.rolls.items;
-  seams = observer.seams.items;
   sample = observer.sample;
 }
 
@@ -60,14 +50,12 @@ observed observer = record {
 abbrev pub nothing_seen : ℕ → Window → Observed
 nothing_seen players window = record {
   window = window;
-  base = 0;
   frame = 0;
   settled = 0;
   rows = [];
   firsts = [];
   heard = map nothing_heard (range_with_len 1 players);
   rolls = [];
-  seams = [];
   sample = None;
 }
 
@@ -94,9 +82,9 @@ is_better roll sample = option_map_or (λ (kept : Sample). is_deeper roll kept.r
 abbrev pub with_sample : Window → Option Sample → Sample → Option Sample
 with_sample window kept sample = if is_better sample.roll kept && is_wanted window sample.roll then Some sample else kept
 
--- the saved states of a roll
-abbrev pub tree_of : Sample → Tree
-tree_of sample = record { claim = sample.claim; base = sample.base }
+-- the claim of a roll, which lists its saved states
+abbrev pub tree_of : Sample → Claim
+tree_of sample = sample.claim
 
 -- the last of the rows, if there is one
 abbrev pub last_row : Rows → Option (List Cell)
@@ -107,85 +95,35 @@ last_row rows = slice_get rows (length rows - 1)
 abbrev pub with_roll : Observed → Seen → Rows → Roll → Claim → Observed
 with_roll seen s rows roll claim = record {
   window = seen.window;
-  base = seen.base;
   frame = s.core.frame;
   settled = settled s.core;
   rows = drop (settled s.core - seen.settled) rows;
   firsts = seen.firsts ++ (if nat_lt seen.frame s.core.frame then option_to_list (last_row rows) else []);
   heard = seen.heard;
   rolls = seen.rolls ++ (if is_rollback roll then roll ∷ [] else []);
-  seams = seen.seams;
-  sample = with_sample seen.window seen.sample (record { roll = roll; claim = claim; base = seen.base });
+  sample = with_sample seen.window seen.sample (record { roll = roll; claim = claim });
 }
 
 -- what was seen, and the roll of a session that has this claim
 abbrev pub after_roll : Observed → Seen → Claim → Observed
 after_roll seen s claim =
     let rows = rows_from s.core claim seen.settled in
-    let roll = roll_from seen.base (roll_of seen.frame claim.from seen.settled seen.rows rows) in
+    let roll = roll_of seen.frame claim.from seen.settled seen.rows rows in
     with_roll seen s rows roll claim
 
--- another session comes in the place of the one that was watched, from this frame on: nothing was seen of it
-abbrev pub closed : Observed → ℕ → Observed
-closed seen base = record {
-  window = seen.window;
-  base = base;
-  frame = 0;
-  settled = 0;
-  rows = [];
-  firsts = [];
-  heard = map (closed_words seen.firsts (base - seen.base)) seen.heard;
-  rolls = seen.rolls;
-  seams = seen.seams ++ base ∷ [];
-  sample = seen.sample;
-}
-
--- and the frames that it has run, by the claim of its last roll, were run for the first time
-abbrev pub started_by : Observed → Seen → Claim → Observed
-started_by seen s claim = record seen {
-  frame = s.core.frame;
-  settled = settled s.core;
-  rows = drop (settled s.core - seen.settled) (rows_from s.core claim seen.settled);
-  firsts = seen.firsts ++ rows_from s.core claim seen.settled;
-}
-
--- what was seen, and the words that have come since, which another machine has carried or not
-abbrev pub coming_to : Bool → Observed → Coming
-coming_to carried seen = record { at = frame_from seen.base seen.frame; carried = carried }
-
-abbrev pub after_words : Bool → Observed → Seen → Observed
-after_words carried seen s = record seen { heard = map (after_hearing s (coming_to carried seen)) seen.heard }
+-- what was seen, and the words that have come since
+abbrev pub after_words : Observed → Seen → Observed
+after_words seen s = record seen { heard = map (after_hearing s seen.frame) seen.heard }
 
 -- the claim of the roll that is to be noted, if there was one
 abbrev pub claim_to_note : Seen → Bool → Option Claim
 claim_to_note s has_rolled = if has_rolled then last_claim s else None
 
--- a session comes in the place of the one that was watched, from this frame on: the words that it has been told are known from there on
-abbrev pub known_from : Observed → ℕ → Seen → Observed
-known_from seen base s = after_words false (closed seen base) s
-
-abbrev pub begun : Observed → ℕ → Seen → Option Claim → Observed
-begun seen base s claim = option_map_or (started_by (known_from seen base s) s) claim (known_from seen base s)
-
 -- what was seen of a session, after it was watched again: the words that have come since, and its last roll if that is new
 abbrev pub after_watch : Observed → Seen → Bool → Observed
 after_watch seen s has_rolled =
-    option_map_or (after_roll (after_words false seen s) s) (claim_to_note s has_rolled) (after_words false seen s)
+    option_map_or (after_roll (after_words seen s) s) (claim_to_note s has_rolled) (after_words seen s)
 
 -- why it can't be watched: there is no roll to be noted, or no memory is left
 abbrev pub watch_refusal : Seen → Bool → Refusal
 watch_refusal s has_rolled = if has_rolled && is_none s.core.last then NoPlan else NoMemory
-
--- whether an entry is a sync or an advance
-abbrev pub is_roll : Entry → Bool
-is_roll Sync = true
-is_roll Advance = true
-is_roll (Local player word) = false
-is_roll (Remote player frame word) = false
-is_roll (Disconnect player) = false
-is_roll (Graft ticket route) = false
-is_roll (Partial to made) = false
-
--- whether entries came to a log that had so many, and the last of them is a sync or an advance
-abbrev pub has_rolled : List Entry → ℕ → Bool
-has_rolled log before = nat_lt before (length log) && option_map_or is_roll (slice_get log (length log - 1)) false

@@ -1,7 +1,7 @@
 //! What a roll changed of the timeline, and what it ran again.
 ghost use Rattle.std.specs.Prelude.{◌≡◌, IfOk};
 ghost use Rattle.roll_frame.specs.Claims.{place_of};
-ghost use Rattle.prog_observer.specs.Changes.{cause_at, cause_from, cause_of, first_change, frame_from, roll_from, roll_of, rows_from, settled_rows};
+ghost use Rattle.prog_observer.specs.Changes.{cause_at, cause_of, first_change, roll_of, rows_from, settled_rows};
 
 use prog_picture::{Cause, Roll};
 use roll_frame::{Cell, Claim, Row};
@@ -56,41 +56,6 @@ pub fn roll_of(at: u32, from: u32, low: u32, before: &[Row], after: &[Row]) -> R
             ggpo: 0,
             cause: Cause::Nothing,
         },
-    }
-}
-
-/// A frame of a session before which so many frames were played; 2^32 - 1 if it is later.
-pub fn frame_from(base: u32, frame: u32) -> u32
-    ensures { result ≡ frame_from base frame }
-{
-    base.saturating_add(frame)
-}
-
-/// A roll of such a session, by all frames.
-pub fn roll_from(base: u32, roll: Roll) -> Roll
-    ensures { result ≡ roll_from base roll }
-{
-    Roll {
-        at: frame_from(base, roll.at),
-        cause: cause_from(base, roll.cause),
-        ..roll
-    }
-}
-
-/// What made it, by all frames.
-fn cause_from(base: u32, cause: Cause) -> Cause
-    ensures { result ≡ cause_from base cause }
-{
-    match cause {
-        Cause::Word { player, frame } => Cause::Word {
-            player,
-            frame: frame_from(base, frame),
-        },
-        Cause::Leaving { player, frame } => Cause::Leaving {
-            player,
-            frame: frame_from(base, frame),
-        },
-        Cause::Nothing => Cause::Nothing,
     }
 }
 

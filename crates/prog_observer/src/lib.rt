@@ -5,4 +5,4 @@ mod change;
 mod hearing;
 mod observer;
 
-pub use observer::{HeldTotals, Observer, has_rolled};
+pub use observer::Observer;

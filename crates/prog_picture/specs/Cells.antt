@@ -1,5 +1,5 @@
 -- The words that a picture shows.
-use Rattle.std.specs.Prelude.{◌-◌, ◌&&◌, ℕ, Bool, false, not, true, List, Option, None, Some, nat_le, ◌==◌, if◌then◌else◌, slice_index_or}
+use Rattle.std.specs.Prelude.{◌-◌, ◌&&◌, ℕ, Bool, false, true, List, Option, None, Some, nat_le, ◌==◌, if◌then◌else◌, slice_index_or}
 use Rattle.std.specs.List.{filter_map, range_with_len}
 use Rattle.std.specs.Option.{option_map}
 use Rattle.prog_picture.specs.declared.cells.CellMark.{CellMark}
@@ -23,13 +23,10 @@ abbrev pub is_known : Look → Bool
 is_known Known = true
 is_known look = false
 
--- whether a word was known in time, and neither held back nor carried
-abbrev pub is_plain : CellMark → Bool
-is_plain mark = is_known (look_of mark) && (mark.cell.held == 0 && not mark.cell.carried)
-
--- whether a word goes on with a run: both are plain, and the same
+-- whether a word goes on with a run: both were known in time, and are the same
 abbrev pub goes_on : Run → CellMark → Bool
-goes_on run mark = is_plain run.first && (is_plain mark && run.first.cell.word == mark.cell.word)
+goes_on run mark =
+    is_known (look_of run.first) && (is_known (look_of mark) && run.first.cell.word == mark.cell.word)
 
 -- the word of a frame, unless none is known
 abbrev pub mark_at : List (Option Cell) → ℕ → Option CellMark

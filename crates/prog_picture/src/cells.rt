@@ -1,7 +1,7 @@
 //! The words of a lane.
 ghost use Rattle.std.specs.Prelude.{◌≡◌, ◌≤◌, IfOk, OnOk};
 ghost use Rattle.prog_picture.specs.Bars.{AddsNoBar, LacksBars};
-ghost use Rattle.prog_picture.specs.Cells.{cell_marks, goes_on, is_plain, look_of, mark_at};
+ghost use Rattle.prog_picture.specs.Cells.{cell_marks, goes_on, is_known, look_of, mark_at};
 ghost use Rattle.prog_picture.specs.Views.{IsView};
 
 use crate::scene::Cell;
@@ -56,20 +56,20 @@ impl CellMark {
         }
     }
 
-    /// Whether the word was known in time, and neither held back nor carried.
-    fn is_plain(&self) -> bool
-        ensures { result ≡ is_plain self.now }
+    /// Whether the word was known in time.
+    fn is_known(&self) -> bool
+        ensures { result ≡ is_known (look_of self.now) }
     {
-        self.look() == Look::Known && self.cell.held == 0 && !self.cell.carried
+        self.look() == Look::Known
     }
 }
 
 impl Run {
-    /// Whether a word goes on with a run: both are plain, and the same.
+    /// Whether a word goes on with a run: both were known in time, and are the same.
     fn goes_on(&self, mark: &CellMark) -> bool
         ensures { result ≡ goes_on self.now mark.now }
     {
-        self.first.is_plain() && mark.is_plain() && self.first.cell.word == mark.cell.word
+        self.first.is_known() && mark.is_known() && self.first.cell.word == mark.cell.word
     }
 }
 
@@ -127,8 +127,6 @@ pub fn push_run(out: &mut String, run: &Run, view: &View, colour: usize) -> Resu
     push_late(out, &first, view)?;
     push_word(out, "class=\"n\" y=\"15\"", first.cell.word, x, wide)?;
     push_wrong(out, &first, x, wide)?;
-    push_held(out, first.cell.held, x, wide)?;
-    push_carried(out, first.cell.carried, x, wide)?;
     out.push_str("</g>\n")
 }
 
@@ -161,9 +159,7 @@ fn push_told(out: &mut String, run: &Run) -> Result<(), AllocError>
         return write!(out, "frames {frame} to {last}: word {word}");
     }
     write!(out, "frame {frame}: word {word}")?;
-    push_heard(out, &run.first)?;
-    push_way(out, cell.carried)?;
-    push_turns(out, cell.held)
+    push_heard(out, &run.first)
 }
 
 /// Writes when a word came, unless it was known in time.
@@ -175,28 +171,6 @@ fn push_heard(out: &mut String, mark: &CellMark) -> Result<(), AllocError>
         None => out.push_str(", predicted: the true one hasn't come"),
         Some(heard) if frame < heard => write!(out, ", shown {shown}, heard in frame {heard}"),
         Some(_) => Ok(()),
-    }
-}
-
-/// Writes that a word was carried, if it was.
-fn push_way(out: &mut String, carried: bool) -> Result<(), AllocError>
-    ensures { OnOk result (AddsNoBar out.old out.new) }
-{
-    if carried {
-        out.push_str(", carried by another machine")
-    } else {
-        Ok(())
-    }
-}
-
-/// Writes for how many turns a word was held back, if it was.
-fn push_turns(out: &mut String, held: u32) -> Result<(), AllocError>
-    ensures { OnOk result (AddsNoBar out.old out.new) }
-{
-    match held {
-        0 => Ok(()),
-        1 => out.push_str(", held back for 1 turn"),
-        held => write!(out, ", held back for {held} turns"),
     }
 }
 
@@ -252,34 +226,6 @@ fn push_wrong(out: &mut String, mark: &CellMark, x: u32, wide: u32) -> Result<()
     }
     write!(out, "<path class=\"r\" d=\"M{x} 19h{wide}v3h-{wide}z\"/>")?;
     push_word(out, "class=\"z\" y=\"-3\"", mark.cell.shown, x, wide)
-}
-
-/// Marks a word that was held back: a dark corner, a third as wide as the word at most.
-fn push_held(out: &mut String, held: u32, x: u32, wide: u32) -> Result<(), AllocError>
-    ensures { OnOk result (AddsNoBar out.old out.new) }
-{
-    if held == 0 {
-        return Ok(());
-    }
-    let corner = (wide / 3).max(2).min(7);
-    write!(
-        out,
-        "<path class=\"j\" d=\"M{x} 0h{corner}l-{corner} {corner}z\"/>"
-    )
-}
-
-/// Marks a word that was carried: a bar along its upper side, up to the last unit of it.
-fn push_carried(out: &mut String, carried: bool, x: u32, wide: u32) -> Result<(), AllocError>
-    ensures { OnOk result (AddsNoBar out.old out.new) }
-{
-    if !carried {
-        return Ok(());
-    }
-    let length = wide.saturating_sub(1);
-    write!(
-        out,
-        "<path class=\"i\" d=\"M{x} 0h{length}v3h-{length}z\"/>"
-    )
 }
 
 /// Writes a word's number in this style, if there is room for it.

@@ -7,8 +7,8 @@ ghost use Rattle.prog_picture.specs.Views.{IsView};
 
 use crate::cells::{CELL_HEIGHT, HEARD_DEPTH, cell_marks, push_run, runs};
 use crate::heading::{height_of, push_title, push_view, title_lines};
-use crate::legend::{LEGEND_HEIGHT, push_carried_meaning, push_held_meaning, push_legend};
-use crate::page::{COLOURS, push_axis, push_colours, push_head, push_seams};
+use crate::legend::{LEGEND_HEIGHT, push_legend};
+use crate::page::{COLOURS, push_axis, push_colours, push_head};
 use crate::rolls::{ROW_HEIGHT, ROWS, RollMark, push_rolls, roll_marks, worst};
 use crate::scene::{Lane, Scene};
 use crate::tree::{Node, nodes, push_tree, tree_height, tree_width};
@@ -85,7 +85,6 @@ fn front(
     push_view(&mut out, view)?;
     push_worst(&mut out, worst(marks), TOP - 4, bottom)?;
     push_axis(&mut out, view, TOP - 10, bottom)?;
-    push_seams(&mut out, &scene.seams, view, TOP - 30, bottom)?;
     push_lanes(alloc, &mut out, scene, view, palette)?;
     push_rolls_head(&mut out, rolls)?;
     Ok(out)
@@ -210,30 +209,6 @@ fn tree_top(bottom: u32) -> u32
     bottom + LEGEND_HEIGHT + 54
 }
 
-/// Whether a word was held back.
-fn has_held(scene: &Scene) -> bool {
-    for lane in &scene.lanes {
-        for cell in &lane.cells {
-            if matches!(cell, Some(cell) if cell.held > 0) {
-                return true;
-            }
-        }
-    }
-    false
-}
-
-/// Whether a word was carried.
-fn has_carried(scene: &Scene) -> bool {
-    for lane in &scene.lanes {
-        for cell in &lane.cells {
-            if matches!(cell, Some(cell) if cell.carried) {
-                return true;
-            }
-        }
-    }
-    false
-}
-
 /// All that stands after the rollbacks.
 fn end(alloc: Global, scene: &Scene, palette: &[u32], nodes: &[Node]) -> Result<String, AllocError>
     ensures { IfOk result (λ end. LacksBars (string_bytes end)) }
@@ -242,12 +217,6 @@ fn end(alloc: Global, scene: &Scene, palette: &[u32], nodes: &[Node]) -> Result<
     let bottom = rolls_top(lane_count(scene)) + ROWS * ROW_HEIGHT;
     out.push_str("</g>\n")?;
     push_legend(&mut out, bottom + 22)?;
-    if has_held(scene) {
-        push_held_meaning(&mut out, bottom + 22)?;
-    }
-    if has_carried(scene) {
-        push_carried_meaning(&mut out, bottom + 22)?;
-    }
     push_colours(&mut out, palette, bottom + LEGEND_HEIGHT + 22)?;
     if let Some(tree) = &scene.tree {
         push_tree(&mut out, tree, nodes, tree_top(bottom))?;

@@ -23,11 +23,6 @@ const RERUN: &str = r#"<path class="f" d="M0 3h24v9h-24z"/>"#;
 
 const GGPO: &str = r#"<path class="o" d="M0 3h24v9h-24z"/>"#;
 
-const HELD: &str = r#"<path class="p1" d="M0 0h24v14h-24z"/><path class="j" d="M0 0h7l-7 7z"/>"#;
-
-const CARRIED: &str =
-    r#"<path class="c1" d="M0 0h24v14h-24z"/><path class="i" d="M0 0h23v3h-23z"/>"#;
-
 /// What the legend says of words, and of bars.
 const OF_WORDS: &str =
     "A word is the one that came. If another had been predicted, that one stands above it, struck out, and the \
@@ -50,20 +45,6 @@ pub fn push_legend(out: &mut String, y: u32) -> Result<(), AllocError>
     push_meaning(out, 880, y, GGPO, "the same without guesses")?;
     push_note(out, y.saturating_add(34), OF_WORDS)?;
     push_note(out, y.saturating_add(52), OF_BARS)
-}
-
-/// Writes what the mark of words that were held back means, beside the notes of the legend.
-pub fn push_held_meaning(out: &mut String, y: u32) -> Result<(), AllocError>
-    ensures { OnOk result (AddsNoBar out.old out.new) }
-{
-    push_meaning(out, 970, y.saturating_add(41), HELD, "held back")
-}
-
-/// Writes what the mark of words that were carried means, above it.
-pub fn push_carried_meaning(out: &mut String, y: u32) -> Result<(), AllocError>
-    ensures { OnOk result (AddsNoBar out.old out.new) }
-{
-    push_meaning(out, 970, y.saturating_add(22), CARRIED, "carried")
 }
 
 /// Writes a mark, and what it means.

@@ -1,4 +1,4 @@
-//! Pictures of rollbacks: what one machine of a match knew frame by frame, and what it ran again, as an SVG.
+//! Pictures of rollbacks: what a session knew frame by frame, and what it ran again, as an SVG.
 #![tactic(auto)]
 
 mod cells;
@@ -15,5 +15,5 @@ mod worst;
 
 pub use drawing::draw;
 pub use heading::TITLE_LIMIT;
-pub use scene::{Cause, Cell, Lane, Roll, Scene, Sight, Tree, Window};
+pub use scene::{Cause, Cell, Lane, Roll, Scene, Sight, Window};
 pub use view::FRAME_LIMIT;

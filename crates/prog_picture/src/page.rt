@@ -21,14 +21,13 @@ text{font:13px system-ui,sans-serif;fill:#1d232b}
 .l{stroke:#5a6572;stroke-opacity:.6;fill:none}.w{stroke:#d62728;stroke-width:1.4;fill:none}
 .n{paint-order:stroke;stroke:#fff;stroke-opacity:.7;stroke-width:3}
 .m{fill:#d62728;fill-opacity:.13}.k{stroke:#d62728;stroke-width:2.5;fill:none}
-.d{stroke:#2d6bd0;stroke-width:2;stroke-dasharray:6 3;fill:none}.i{fill:#1d232b;fill-opacity:.75}
-.j{fill:#1d232b}.r{fill:#d62728}.z{font-size:12px;text-anchor:middle;text-decoration:line-through;fill:#d62728}
+.r{fill:#d62728}.z{font-size:12px;text-anchor:middle;text-decoration:line-through;fill:#d62728}
 .f{fill:#e2622c}.o{fill:none;stroke:#7a8592;stroke-dasharray:3 2}
 .y{fill:#fff;fill-opacity:.62}
 .u,.v{fill:#8fd19e;stroke:#2e8b4a}.v{stroke-width:3}.x{fill:#f2b8b5;stroke:#d62728}.e{fill:#c9d1da;stroke:#7a8592}
 @media (prefers-color-scheme:dark){.q{fill:#14181d}text{fill:#e8ecf0}.b{fill:#ff8078}
 .s,.a{fill:#a9b4c0}.n{fill:#fff;stroke:#14181d}.g,.h,.l{stroke:#a9b4c0}.w,.k{stroke:#ff5a52}.r,.z{fill:#ff5a52}
-.d{stroke:#7fb0ff}.i,.j{fill:#fff}.m{fill:#ff5a52;fill-opacity:.2}.o{stroke:#a9b4c0}.y{fill:#14181d;fill-opacity:.55}
+.m{fill:#ff5a52;fill-opacity:.2}.o{stroke:#a9b4c0}.y{fill:#14181d;fill-opacity:.55}
 .u,.v{fill:#2e6b40;stroke:#6fce86}.x{fill:#6e2a28;stroke:#ff5a52}.e{fill:#3a444f;stroke:#a9b4c0}}
 .c0{fill:#a3adb8}.p0{fill:url(#p0)}
 .c1{fill:#4a8fdc}.p1{fill:url(#p1)}
@@ -97,40 +96,6 @@ fn push_tick(out: &mut String, frame: u32, x: u32, top: u32, bottom: u32) -> Res
     let y = top - 6;
     writeln!(out, "<path class=\"g\" d=\"M{x} {top}V{bottom}\"/>")?;
     writeln!(out, "<text class=\"a\" x=\"{x}\" y=\"{y}\">{frame}</text>")
-}
-
-/// Writes a line where an epoch begins, for each that is shown.
-pub fn push_seams(
-    out: &mut String,
-    seams: &[u32],
-    view: &View,
-    top: u32,
-    bottom: u32,
-) -> Result<(), AllocError>
-    requires view { IsView view.now }
-    requires top { 6 ≤ top }
-    ensures { OnOk result (AddsNoBar out.old out.new) }
-{
-    for seam in seams {
-        if view.from <= *seam && *seam < view.to {
-            push_seam(out, *seam, view.x_of(*seam), top, bottom)?;
-        }
-    }
-    Ok(())
-}
-
-/// Writes the line where an epoch begins, and its frame above it.
-fn push_seam(out: &mut String, seam: u32, x: u32, top: u32, bottom: u32) -> Result<(), AllocError>
-    requires { 6 ≤ top }
-    ensures { OnOk result (AddsNoBar out.old out.new) }
-{
-    let y = top - 6;
-    write!(out, "<g><title>an epoch begins at frame {seam}</title>")?;
-    write!(out, "<path class=\"d\" d=\"M{x} {top}V{bottom}\"/>")?;
-    writeln!(
-        out,
-        "<text class=\"a\" x=\"{x}\" y=\"{y}\">epoch from {seam}</text></g>"
-    )
 }
 
 /// Each how many frames one is numbered.

@@ -10,10 +10,6 @@ pub struct Cell {
     pub shown: u32,
     /// The session's frame in which the word was heard: a later one than its own if it came late. None if it hasn't come.
     pub heard: Option<u32>,
-    /// For how many turns it was held back from the session; 0 if the session heard it as it came.
-    pub held: u32,
-    /// Whether another machine than the player's own carried it here.
-    pub carried: bool,
 }
 
 /// The words of a player.
@@ -51,14 +47,6 @@ pub struct Roll {
     pub cause: Cause,
 }
 
-/// The saved states at a rollback, and what it passed over.
-#[derive(Drop)]
-pub struct Tree {
-    pub claim: Claim,
-    /// The frame from which the claim counts its frames.
-    pub base: u32,
-}
-
 /// What a picture shows.
 #[derive(Drop)]
 pub struct Scene {
@@ -72,10 +60,8 @@ pub struct Scene {
     pub lanes: Vec<Lane>,
     /// The rollbacks in their order.
     pub rolls: Vec<Roll>,
-    /// The saved states at one of the rollbacks.
-    pub tree: Option<Tree>,
-    /// The frames at which epochs began, but the first.
-    pub seams: Vec<u32>,
+    /// The claim of one of the rollbacks, whose saved states are shown.
+    pub tree: Option<Claim>,
 }
 
 /// Which part of a play a picture is to show.

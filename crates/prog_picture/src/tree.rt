@@ -2,7 +2,6 @@
 ghost use Rattle.std.specs.Prelude.{◌≤◌, OnOk, length};
 ghost use Rattle.prog_picture.specs.Bars.{AddsNoBar, LacksBars};
 
-use crate::scene::Tree;
 use roll_frame::{Cell, Claim, Differ, PATH_LIMIT, Path, Row};
 use std::alloc::{AllocError, Global};
 use std::fmt::Write;
@@ -48,9 +47,9 @@ struct Layout {
 }
 
 /// The states of a claim, those of the timeline's way first.
-pub fn nodes(alloc: Global, tree: Option<&Tree>) -> Result<Vec<Node>, AllocError> {
+pub fn nodes(alloc: Global, tree: Option<&Claim>) -> Result<Vec<Node>, AllocError> {
     let mut nodes = Vec::new(alloc);
-    let Some(Tree { claim, .. }) = tree else {
+    let Some(claim) = tree else {
         return Ok(nodes);
     };
     push_run_states(&mut nodes, claim)?;
@@ -171,29 +170,33 @@ fn frame_at(claim: &Claim, depth: usize) -> u32 {
 }
 
 /// Writes the saved states from a height on.
-pub fn push_tree(out: &mut String, tree: &Tree, nodes: &[Node], top: u32) -> Result<(), AllocError>
+pub fn push_tree(
+    out: &mut String,
+    claim: &Claim,
+    nodes: &[Node],
+    top: u32,
+) -> Result<(), AllocError>
     requires { top ≤ 2200 }
     ensures { OnOk result (AddsNoBar out.old out.new) }
 {
-    push_heading(out, tree, top)?;
+    push_heading(out, claim, top)?;
     writeln!(out, "<g transform=\"translate(0 {})\">", top + 52)?;
-    push_frames(out, tree)?;
+    push_frames(out, claim)?;
     for node in nodes {
         if node.lane <= LANE_LIMIT {
-            push_node(out, tree, node)?;
+            push_node(out, claim, node)?;
         }
     }
     out.push_str("</g>\n")
 }
 
 /// Writes what is shown, and what its marks mean.
-fn push_heading(out: &mut String, tree: &Tree, top: u32) -> Result<(), AllocError>
+fn push_heading(out: &mut String, claim: &Claim, top: u32) -> Result<(), AllocError>
     requires { top ≤ 2200 }
     ensures { OnOk result (AddsNoBar out.old out.new) }
 {
-    let Tree { claim, base } = tree;
-    let from = base.saturating_add(claim.from);
-    let target = base.saturating_add(frame_at(claim, claim.time.len()));
+    let from = claim.from;
+    let target = frame_at(claim, claim.time.len());
     let kept = claim.kept.len();
     write!(out, "<text class=\"t\" x=\"12\" y=\"{}\">", top + 16)?;
     write!(
@@ -212,27 +215,25 @@ fn push_heading(out: &mut String, tree: &Tree, top: u32) -> Result<(), AllocErro
 }
 
 /// Writes the numbers of the frames.
-fn push_frames(out: &mut String, tree: &Tree) -> Result<(), AllocError>
+fn push_frames(out: &mut String, claim: &Claim) -> Result<(), AllocError>
     ensures { OnOk result (AddsNoBar out.old out.new) }
 {
-    let Tree { claim, base } = tree;
     for depth in 0..claim.time.len().saturating_add(1) {
-        let (x, frame) = (x_at(depth), base.saturating_add(frame_at(claim, depth)));
+        let (x, frame) = (x_at(depth), frame_at(claim, depth));
         writeln!(out, "<text class=\"s\" x=\"{x}\" y=\"6\">{frame}</text>")?;
     }
     Ok(())
 }
 
 /// Writes a state: what is told of it, the line from the state before it, and its row.
-fn push_node(out: &mut String, tree: &Tree, node: &Node) -> Result<(), AllocError>
+fn push_node(out: &mut String, claim: &Claim, node: &Node) -> Result<(), AllocError>
     ensures { OnOk result (AddsNoBar out.old out.new) }
 {
-    let claim = &tree.claim;
     let x = x_at(node.depth);
     let y = y_at(node.lane);
     let differ = differ_of(claim, node);
     out.push_str("<g><title>")?;
-    push_told(out, tree, node, differ)?;
+    push_told(out, claim, node, differ)?;
     let style = style_of(claim, node, differ);
     write!(
         out,
@@ -307,25 +308,20 @@ fn style_of(claim: &Claim, node: &Node, differ: Option<Differ>) -> &'static str
 /// Writes what is told of a state.
 fn push_told(
     out: &mut String,
-    tree: &Tree,
+    claim: &Claim,
     node: &Node,
     differ: Option<Differ>,
 ) -> Result<(), AllocError>
     ensures { OnOk result (AddsNoBar out.old out.new) }
 {
-    let Tree { claim, base } = tree;
     let at = frame_at(claim, node.depth);
-    let frame = base.saturating_add(at);
-    write!(out, "frame {frame}: ")?;
+    write!(out, "frame {at}: ")?;
     push_inputs(out, row_of(claim, node))?;
     match differ {
-        Some(Differ { frame, player, .. }) => {
-            let frame = base.saturating_add(frame);
-            write!(
-                out,
-                "passed over: differs at frame {frame}, player {player}"
-            )
-        }
+        Some(Differ { frame, player, .. }) => write!(
+            out,
+            "passed over: differs at frame {frame}, player {player}"
+        ),
         None if node.place.is_none() => out.push_str("run now"),
         None if at == claim.from && node.lane == 0 => out.push_str("saved: it starts here"),
         None => out.push_str("saved"),

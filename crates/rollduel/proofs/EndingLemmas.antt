@@ -1,17 +1,17 @@
 -- How the program ends at words that fail.
-use Rattle.std.proofs.Common.{◌≡◌, ◌∙◌, ◌⊎◌, ap, arith, inl, inr, refl, subst, sym, string_bytes, List, [], ◌∷◌, MatchOption, Option, Some, None}
+use Rattle.std.proofs.Common.{◌≡◌, ◌∙◌, ap, inl, inr, refl, subst, string_bytes, [], ◌∷◌, MatchOption, Option, Some, None}
 use Rattle.std.specs.Prelude.{option_map}
-use Rattle.clap.specs.Walk.{Row, Text}
+use Rattle.clap.specs.Walk.{Text}
 use Rattle.clap.specs.Kinds.{HasKind, IsAmong, Kinds}
 use Rattle.clap.specs.Values.{kind_of}
 use Rattle.clap.specs.declared.error.Error.{Error}
 use Rattle.clap.specs.declared.error.kind.ErrorKind.{ErrorKind}
 use Rattle.prog_parts.specs.declared.ending.Ending.{Ending}
 use Rattle.prog_parts.specs.declared.fault.PlayFault.{PlayFault}
-use Rattle.prog_parts.specs.declared.fault.PlayFault.TheVariants.{NoMemory, Write}
-use Rattle.rollduel.specs.Endings.{EndsMatch, EndsRefused, EndsUnpictured, IsPrinted, IsTold, IsToldOfOne, faulted, misused, picture_after, to_save}
+use Rattle.prog_parts.specs.declared.fault.PlayFault.TheVariants.{NoMemory}
+use Rattle.rollduel.specs.Endings.{EndsRefused, EndsUnpictured, IsPrinted, IsTold, IsToldOfOne, faulted, misused, picture_after, to_save}
 use Rattle.rollduel.specs.declared.picture.Done.{Done}
-use Rattle.rollduel.specs.Requests.{Asked, IfMatch, IfRefused, live, «match», on_text, refused}
+use Rattle.rollduel.specs.Requests.{Asked, IfRefused, live, on_text, refused}
 
 told_of_one : (kinds : Kinds) (kind : ErrorKind) (ending : Ending) → IsAmong kind kinds → IsTold kind ending → IsToldOfOne kinds ending
 told_of_one [] kind ending among told = absurd among
@@ -25,24 +25,6 @@ ends_refused (k ∷ ks) error ending (inl memory) (inr told) = absurd (told.0 me
 ends_refused (k ∷ ks) error ending (inr among) (inr told) = inr (told_of_one (k ∷ ks) (kind_of error) ending among told.1)
 
 -- words that are taken, but for want of memory
-never_well : (kinds : Kinds) (error : Error) (ending : Ending) → HasKind kinds error → IsPrinted (kind_of error) ending → kinds ≡ [] → ending.status ≡ 0 → ⊥
-never_well (k ∷ ks) error ending fails printed none well = absurd (cc none)
-never_well [] error ending (inr among) printed none well = absurd among
-never_well [] error ending (inl memory) (inl told) none well = absurd (omega (arith, well, ap (λ (e : Ending). e.status) told.1))
-never_well [] error ending (inl memory) (inr told) none well = absurd (told.0 memory)
-
-match_fails : (rows : List Row) (asked : Asked) (ending : Ending) → (ending.status ≡ 0 → ⊥)
-    → IfMatch asked (EndsMatch rows ending)
-match_fails rows (on_text path task explain) ending never = tt
-match_fails rows (live path how) ending never = tt
-match_fails rows «match» ending never = λ well. absurd (never well)
-match_fails rows (refused fault) ending never = tt
-
-pub match_refused : (rows : List Row) (asked : Asked) (kinds : Kinds) (error : Error) (ending : Ending) → HasKind kinds error
-    → IsPrinted (kind_of error) ending → kinds ≡ [] → IfMatch asked (EndsMatch rows ending)
-match_refused rows asked kinds error ending fails printed none =
-    match_fails rows asked ending (never_well kinds error ending fails printed none)
-
 unpictured_out : (kinds : Kinds) (error : Error) (ending : Ending) → HasKind kinds error → IsPrinted (kind_of error) ending → kinds ≡ [] → ending ≡ faulted NoMemory
 unpictured_out (k ∷ ks) error ending fails printed none = absurd (cc none)
 unpictured_out [] error ending (inr among) printed none = absurd among
@@ -52,7 +34,6 @@ unpictured_out [] error ending (inl memory) (inr told) none = absurd (told.0 mem
 pub unpictured_if : (asked : Asked) (ending : Ending) → ending ≡ faulted NoMemory → IfRefused asked (EndsUnpictured ending)
 unpictured_if (on_text path task explain) ending out = tt
 unpictured_if (live path how) ending out = tt
-unpictured_if «match» ending out = tt
 unpictured_if (refused fault) ending out = inr out
 
 pub unpictured_refused : (asked : Asked) (kinds : Kinds) (error : Error) (ending : Ending) → HasKind kinds error → IsPrinted (kind_of error) ending → kinds ≡ [] → IfRefused asked (EndsUnpictured ending)
@@ -64,22 +45,7 @@ pub refused_out : (kinds : Kinds) (ending : Ending) → ending ≡ faulted NoMem
 refused_out [] ending out = tt
 refused_out (k ∷ ks) ending out = inl out
 
-never_faulted : (fault : PlayFault) (ending : Ending) → ending ≡ faulted fault → ending.status ≡ 0 → ⊥
-never_faulted fault ending faults well = omega (arith, well, ap (λ (e : Ending). e.status) faults)
-
-pub match_out : (rows : List Row) (asked : Asked) (fault : PlayFault) (ending : Ending) → ending ≡ faulted fault
-    → IfMatch asked (EndsMatch rows ending)
-match_out rows asked fault ending faults = match_fails rows asked ending (never_faulted fault ending faults)
-
 -- after a picture was saved, or couldn't be
-
-pub match_saved : (rows : List Row) (asked : Asked) (before ending : Ending)
-    → (ending ≡ before) ⊎ (ending ≡ misused) ⊎ (ending ≡ faulted Write)
-    → IfMatch asked (EndsMatch rows before) → IfMatch asked (EndsMatch rows ending)
-match_saved rows asked before ending (inl same) ends = subst (λ (e : Ending). IfMatch asked (EndsMatch rows e)) (sym same) ends
-match_saved rows asked before ending (inr (inl other)) ends =
-    match_fails rows asked ending (λ well. omega (arith, well, ap (λ (e : Ending). e.status) other))
-match_saved rows asked before ending (inr (inr faults)) ends = match_out rows asked Write ending faults
 
 no_picture_after : (fault : Option PlayFault) (path : Option Text) → picture_after fault path None ≡ None
 no_picture_after (Some fault) path = refl
@@ -95,7 +61,6 @@ pub unpictured_saved : (asked : Asked) (done : Done) (ending : Ending) (Saved : 
     → IfRefused asked (λ fault. (done.ending ≡ misused) × (done.picture ≡ None) × A × B) → IfRefused asked (EndsUnpictured ending)
 unpictured_saved (on_text path task explain) done ending Saved A B saved was = tt
 unpictured_saved (live path how) done ending Saved A B saved was = tt
-unpictured_saved «match» done ending Saved A B saved was = tt
 unpictured_saved (refused fault) done ending Saved A B saved was =
     let same : ending ≡ done.ending =
     subst (λ (o : Option (Text × Text)). MatchOption o (ending ≡ done.ending) Saved) (nothing_to_save done was.1) saved in

@@ -1,3 +1,2 @@
-pub mod AskedLemmas
 pub mod EndingLemmas
 pub mod WordExamples

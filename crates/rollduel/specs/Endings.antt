@@ -6,15 +6,12 @@ use Rattle.clap.specs.declared.error.kind.ErrorKind.TheVariants.{DisplayHelp, Di
 use Rattle.prog_parts.specs.declared.fault.PlayFault.{PlayFault}
 use Rattle.prog_parts.specs.declared.fault.PlayFault.TheVariants.{NoMemory, Read, Write}
 use Rattle.prog_parts.specs.declared.ending.Ending.{Ending}
-use Rattle.clap.specs.Walk.{Row, Text}
-use Rattle.prog_peers.specs.Agreement.{HasAgreed}
-use Rattle.prog_machine.specs.declared.options.PeersOptions.{PeersOptions}
+use Rattle.clap.specs.Walk.{Text}
 use Rattle.std.specs.declared.alloc.Global.{Global}
 use Rattle.std.specs.declared.string.String.{String}
 use Rattle.prog_explain.specs.Pictured.{IsShown}
 use Rattle.prog_parts.specs.declared.task.Task.{Task}
 use Rattle.prog_picture.specs.declared.scene.Window.{Window}
-use Rattle.rollduel.specs.Requests.{AreNamed}
 use Rattle.rollduel.specs.declared.picture.Done.{Done}
 use Rattle.prog_command_line.specs.declared.picture.OptionFault.{OptionFault}
 
@@ -29,11 +26,6 @@ misused = record { status = 2; fault = None }
 -- 0, 1 or 2, and 2 at a fault
 abbrev pub HasStatus : Ending → Type 0
 HasStatus ending = MatchOption ending.fault (ending.status ≤ 2) (λ fault. ending.status ≡ 2)
-
--- a match ends well only where it is one that these arguments name, and its machines have agreed
-abbrev pub EndsMatch : List Row → Ending → Type 0
-EndsMatch rows ending = ending.status ≡ 0
-    → (options : PeersOptions) × AreNamed rows options × HasAgreed options
 
 -- how the program ends at words of which the picture can't be drawn
 abbrev pub EndsUnpictured : Ending → OptionFault → Type 0

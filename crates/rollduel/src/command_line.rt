@@ -1,26 +1,21 @@
 //! What the words of the command line ask for, as the parts of the program take it.
-ghost use Rattle.std.specs.Prelude.{◌≡◌, IfErr, IfOk, List, map, string_bytes, true};
+ghost use Rattle.std.specs.Prelude.{◌≡◌, IfErr, IfOk, map, string_bytes, true};
 ghost use Rattle.clap.specs.Faults.{fault_of};
 ghost use Rattle.clap.specs.Kinds.{FailsBy};
-ghost use Rattle.clap.specs.Words.{Row, kind_of, takes};
+ghost use Rattle.clap.specs.Words.{kind_of, takes};
 ghost use Rattle.clap.specs.declared.error.kind.ErrorKind.TheVariants.{OutOfMemory};
 ghost use Rattle.prog_command_line.specs.Commands.{rollduel_app};
-ghost use Rattle.prog_command_line.specs.Requests.{HasOptions as WasAskedFor, HasWorkers as NamesWorkers, asked_of as line_of, picture_of as picture_in_line, rows_by};
-ghost use Rattle.prog_changes.specs.Delays.{NamesDelays};
-ghost use Rattle.rollduel.specs.Requests.{HasOptions, HasWorkers, IsOf, asked_as, asked_by, asked_of, game_as, guesses_as, live_as, options_as, picture_as, picture_by, picture_of, task_as, text_as, window_as};
+ghost use Rattle.prog_command_line.specs.Requests.{HasWorkers as NamesWorkers, asked_of as line_of, picture_of as picture_in_line};
+ghost use Rattle.rollduel.specs.Requests.{HasWorkers, asked_as, asked_by, asked_of, game_as, live_as, picture_as, picture_by, picture_of, task_as, text_as, window_as};
 
 use crate::picture::PictureRequest;
 use clap::Error;
-use prog_changes::{Delays, read_delays};
 use prog_command_line::{
-    Game, GuessOption, Input, LiveOptions, MatchRequest, OptionFault, PeersRequest,
-    PictureRequest as AskedPicture, PictureWindow, Request as Asked, TextRequest as AskedText,
-    TextTask,
+    Game, Input, LiveOptions, OptionFault, PictureRequest as AskedPicture, PictureWindow,
+    Request as Asked, TextRequest as AskedText, TextTask,
 };
-use prog_machine::{PeersFault, PeersOptions, read_comes, read_lines, read_splits, read_stops};
 use prog_parts::{GameName, Task};
 use prog_picture::Window;
-use prog_sides::{Guesses, MatchOptions};
 use roll_live::Live;
 use std::alloc::Global;
 
@@ -42,8 +37,6 @@ pub enum Request<'a> {
     Text(TextRequest<'a>),
     /// A script is to be played live.
     Live { input: Input<'a>, live: Live },
-    /// A match is to be played, of which nothing is read, or why it can't be.
-    Match(Result<PeersOptions, PeersFault>),
     /// Nothing, for what is said of a picture can't be followed.
     Refused(OptionFault),
 }
@@ -68,8 +61,6 @@ pub fn read<'a>(
         (map string_bytes words.now)) }
     ensures picture { IfOk result (λ line. picture_of line.picture ≡ picture_by
         (map string_bytes words.now)) }
-    ensures options { IfOk result (λ line. HasOptions (rows_by (map string_bytes words.now))
-        line.request) }
     ensures workers { IfOk result (λ line. HasWorkers line.request) }
     ensures taken { IfErr result (λ error. takes rollduel_app (map string_bytes words.now) ≡ true
         → kind_of error ≡ OutOfMemory) }
@@ -84,7 +75,6 @@ pub fn read<'a>(
 
 fn request_of<'a>(asked: &Asked<'a>) -> Request<'a>
     ensures asked { asked_of result ≡ asked_as (line_of asked.now) }
-    ensures options { (rows : List Row) → WasAskedFor rows asked.now → HasOptions rows result }
     ensures workers { NamesWorkers asked.now → HasWorkers result }
 {
     match asked {
@@ -93,7 +83,6 @@ fn request_of<'a>(asked: &Asked<'a>) -> Request<'a>
             input: *input,
             live: live_of(live),
         },
-        Asked::Match(asked) => Request::Match(peers_of(asked)),
         Asked::Refused(fault) => Request::Refused(*fault),
     }
 }
@@ -142,61 +131,6 @@ fn live_of(live: &LiveOptions) -> Live
     }
 }
 
-fn options_of(asked: &MatchRequest) -> MatchOptions
-    ensures { result ≡ options_as asked.now }
-{
-    MatchOptions {
-        frames: asked.frames,
-        seed: asked.seed,
-        late: asked.late,
-        lost: asked.lost,
-        hold: asked.hold,
-        delay: asked.delay,
-        threshold: asked.threshold,
-        guesses: guesses_of(asked.guesses),
-        jobs: asked.jobs,
-        game: game_of(asked.game),
-    }
-}
-
-/// The options of a match, or why none is played so.
-fn peers_of(asked: &PeersRequest<'_>) -> Result<PeersOptions, PeersFault>
-    ensures { IfOk result (IsOf asked.now) }
-{
-    let stops = read_stops(&asked.stops)?;
-    let breaks = read_lines(&asked.breaks)?;
-    let heals = read_lines(&asked.heals)?;
-    let delays = delays_of(&asked.delays)?;
-    let comes = read_comes(&asked.comes)?;
-    let splits = read_splits(&asked.splits)?;
-    let options = PeersOptions {
-        machines: asked.machines,
-        common: options_of(&asked.common),
-        stops,
-        breaks,
-        heals,
-        delays,
-        comes,
-        splits,
-        hostile: asked.hostile,
-        held: asked.held,
-    };
-    match options.fault() {
-        None => Ok(options),
-        Some(fault) => Err(fault),
-    }
-}
-
-/// The input delays that texts name.
-fn delays_of(texts: &[&str]) -> Result<Delays, PeersFault>
-    ensures { IfOk result (NamesDelays (map (λ text. text.now) texts.now)) }
-{
-    match read_delays(texts) {
-        Ok(delays) => Ok(delays),
-        Err(why) => Err(PeersFault::Change(why)),
-    }
-}
-
 fn window_of(window: PictureWindow) -> Window
     ensures { result ≡ window_as window }
 {
@@ -213,14 +147,5 @@ fn game_of(game: Game) -> GameName
     match game {
         Game::Tally => GameName::Tally,
         Game::Duel => GameName::Duel,
-    }
-}
-
-fn guesses_of(guesses: GuessOption) -> Guesses
-    ensures { result ≡ guesses_as guesses }
-{
-    match guesses {
-        GuessOption::Off => Guesses::Off,
-        GuessOption::Best => Guesses::Best,
     }
 }

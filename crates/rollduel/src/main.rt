@@ -1,6 +1,6 @@
-//! The program `rollduel`: plays scripts and prints what the session shows, plays matches, tests games, and checks claims.
+//! The program `rollduel`: plays scripts and prints what the session shows, tests games, and checks claims.
 //!
-//! The work is done in `roll_cli`, `prog_explain`, `roll_live` and `prog_peers`, and `prog_command_line` reads the command line.
+//! The work is done in `roll_cli`, `prog_explain` and `roll_live`, and `prog_command_line` reads the command line.
 //! Here are the streams, the file of a picture and the exit status.
 //!
 //! What terminals, pipes and files give or take no clause can say. So less is proved of `main` than of `perform` on
@@ -15,9 +15,8 @@ ghost use Rattle.clap.specs.Kinds.{FailsBy};
 ghost use Rattle.clap.specs.Words.{kind_of};
 ghost use Rattle.prog_parts.specs.declared.fault.PlayFault.TheVariants.{NoMemory, Read as CannotRead, Write as CannotWrite};
 ghost use Rattle.prog_command_line.specs.Commands.{rollduel_app};
-ghost use Rattle.prog_command_line.specs.Requests.{rows_by};
-ghost use Rattle.rollduel.specs.Endings.{HasStatus, ShowsOn, ShowsOnFile, EndsMatch, EndsOn, EndsOnFile, EndsRefused, EndsUnpictured, IsPrinted, misused};
-ghost use Rattle.rollduel.specs.Requests.{IfLive, IfMatch, IfRefused, IfText, asked_by, picture_by, window_by};
+ghost use Rattle.rollduel.specs.Endings.{HasStatus, ShowsOn, ShowsOnFile, EndsOn, EndsOnFile, EndsRefused, EndsUnpictured, IsPrinted, misused};
+ghost use Rattle.rollduel.specs.Requests.{IfLive, IfRefused, IfText, asked_by, picture_by, window_by};
 ghost use Rattle.roll_cli.specs.Programs.{Ends};
 ghost use Rattle.roll_live.specs.Lives.{Ends as EndsLive};
 
@@ -82,9 +81,6 @@ where
     R::Reader: IsTerminal,
     T: AllocGlobal + Threads + Wait + Copy + Send + 'static,
     ensures refused { EndsRefused (fault_of rollduel_app (map string_bytes words.now)) result }
-    ensures match_ends { fault_of rollduel_app (map string_bytes words.now) ≡ []
-        → IfMatch (asked_by (map string_bytes words.now))
-        (EndsMatch (rows_by (map string_bytes words.now)) result) }
     ensures unpictured { fault_of rollduel_app (map string_bytes words.now) ≡ []
         → IfRefused (asked_by (map string_bytes words.now)) (EndsUnpictured result) }
     ensures status { HasStatus result }
@@ -162,11 +158,6 @@ where
         (λ path live. IfSome path (λ path. (standard.new ≡ standard.old)
         × ((opened : _) × FnOnceReturnsAt O.FnOnce opener path opened × EndsOnFile W.contents
         (EndsLive live.game) writer.old writer.new done.ending F.remaining opened)))) }
-    ensures match_ends { IfOk result (λ done. IfMatch (asked_by (map string_bytes words.now))
-        (EndsMatch (rows_by (map string_bytes words.now)) done.ending)) }
-    ensures match_streams { IfOk result (λ done. IfMatch (asked_by (map string_bytes words.now))
-        ((standard.new ≡ standard.old) × IfSome done.ending.fault (λ fault. (fault ≡ CannotWrite)
-        ⊎ (writer.new ≡ writer.old)))) }
     ensures unpictured { IfOk result (λ done. IfRefused (asked_by (map string_bytes words.now))
         (λ fault. (done.ending ≡ misused) × (done.picture ≡ None) × (standard.new ≡ standard.old)
         × (writer.new ≡ writer.old))) }
@@ -202,19 +193,6 @@ where
                 picture: sight.picture,
             })
         }
-        Request::Match(Ok(options)) => {
-            let ending = prog_peers::run(alloc, &options, &mut sight, writer);
-            Ok(Done {
-                ending,
-                path,
-                picture: sight.picture,
-            })
-        }
-        Request::Match(Err(fault)) => Ok(Done {
-            ending: work::refuse(fault, notes),
-            path,
-            picture: None,
-        }),
         Request::Refused(fault) => Ok(Done {
             ending: work::refuse(fault, notes),
             path,

@@ -12,10 +12,8 @@ returns c =
     let with_play = has_command c.play_command.result _ _ _ _ c.in_ok-program.ensures play.app play.local new_is in
     let live = c.live_command.ensures in
     let with_live = has_command c.live_command.result _ _ _ _ c.in_ok-program-2.ensures live.app live.local with_play in
-    let «match» = c.match_command.ensures in
-    let with_match = has_command c.match_command.result _ _ _ _ c.in_ok-program-3.ensures «match».app «match».local with_live in
     let test = c.synctest_command.ensures in
-    let with_test = has_command c.synctest_command.result _ _ _ _ c.in_ok-program-4.ensures test.app test.local with_match in
+    let with_test = has_command c.synctest_command.result _ _ _ _ c.in_ok-program-3.ensures test.app test.local with_live in
     let certify = c.certify_command.ensures in
-    IfOk-weaker c.with_command-5.result _ _ (λ command added.
-    has_command c.certify_command.result _ _ _ _ added certify.app certify.local with_test) c.with_command-5.ensures
+    IfOk-weaker c.with_command-4.result _ _ (λ command added.
+    has_command c.certify_command.result _ _ _ _ added certify.app certify.local with_test) c.with_command-4.ensures

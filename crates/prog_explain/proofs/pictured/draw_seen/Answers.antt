@@ -10,7 +10,6 @@ returns g c =
       to = scene.to;
       lanes = scene.lanes;
       rolls = scene.rolls;
-      seams = scene.seams;
       tree = scene.tree;
       drawn = drawn;
     }) c.draw.ensures

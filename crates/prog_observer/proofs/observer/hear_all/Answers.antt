@@ -5,7 +5,7 @@ use Rattle.prog_observer.proofs.observer.hear_all.Goals as goal
 
 pub loop-hearing-preserved : goal.loop-hearing-preserved
 loop-hearing-preserved g c = record {
-  heard = changed_more heard_words (after_hearing c.args.session.now c.args.how) c.loop-hearing.hearings
+  heard = changed_more heard_words (after_hearing c.args.session.now c.args.at) c.loop-hearing.hearings
       c.args.hearings.now c.loop-hearing.hearing-index
       c.hearing-item.result c.hear.new.self c.loop-hearing.invariant.heard (omega arith) (omega arith) c.in_ok-hear.ensures;
 }

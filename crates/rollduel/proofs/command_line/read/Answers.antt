@@ -8,8 +8,5 @@ returns-clause-request c = c.request_of.ensures.asked ∙ ap asked_as c.in_ok-li
 pub returns-clause-picture : goal.returns-clause-picture
 returns-clause-picture c = c.picture_of.ensures ∙ ap picture_as c.in_ok-line.ensures.picture
 
-pub returns-clause-options : goal.returns-clause-options
-returns-clause-options c = c.request_of.ensures.options _ c.in_ok-line.ensures.options
-
 pub returns-clause-workers : goal.returns-clause-workers
 returns-clause-workers c = c.request_of.ensures.workers c.in_ok-line.ensures.workers

@@ -1,7 +1,0 @@
-use Rattle.std.proofs.Common.{◌∙◌, ap}
-use Rattle.prog_peers.proofs.Agreed.{map_set}
-use Rattle.prog_peers.proofs.playing.Table.seat_guest.Goals as goal
-
-pub returns : goal.returns
-returns g c = map_set (λ m. m.me) c.args.self.now.machines.items c.args.comer c.come_in.new.self c.index_mut.result.now
-    (c.come_in.ensures.me ∙ ap (λ m. m.me) c.index_mut.ensures.value)

@@ -1,3 +1,0 @@
-pub mod Agreement
-pub mod Totals
-pub mod Sights

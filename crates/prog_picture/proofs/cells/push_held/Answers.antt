@@ -1,6 +1,0 @@
-use Rattle.std.proofs.Common.{rules}
-use Rattle.prog_picture.proofs.Bare.{bare}
-use Rattle.prog_picture.proofs.cells.push_held.Goals as goal
-
-pub returns : goal.returns
-returns c = search (rules, bare)

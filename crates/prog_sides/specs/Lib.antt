@@ -1,4 +1,0 @@
-pub mod Options
-pub mod Words
-pub mod Agreement
-pub mod Endings
