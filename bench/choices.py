@@ -8,7 +8,7 @@ again, as a share of those that GGPO runs again on the same words.
 
 Which states are kept is followed here, by their paths, so the table needs no program. With ROLLDUEL the first 200 frames of
 each match are played through it too, as a script, and it must count the same jobs and the same frames. And a second table is
-printed, of 20 of its own matches for each number of jobs: `rollduel match --guesses best`.
+printed, of 20 matches of the program beside it for each number of jobs: `faz-sim --guesses best`.
 
 With --parts the players of tests/c/trials/habits.c are measured: one who plays with a pad, and one who has four words. The guesses are
 chosen by whole words, by parts, and by what foresaw more. TRIALS is the program of tests/c/trials: it must count the same
@@ -20,6 +20,7 @@ import random
 import subprocess
 import sys
 from itertools import accumulate, islice
+from pathlib import Path
 
 THRESHOLD, PATH_LIMIT, BRANCH_LIMIT = 8, 24, 8
 HEADER = f"roll 1 players 2 local 1 delay 0,0 threshold {THRESHOLD}"
@@ -357,8 +358,8 @@ def check(program, match):
 
 
 def counts(program, *words):
-    """What a match of the program counts: frames that both sides ran again, those of GGPO, and the guesses."""
-    said = subprocess.run([program, "match", *words], stdout=subprocess.PIPE, check=True).stdout.decode().splitlines()[-1]
+    """What a match counts: frames that both sides ran again, those of GGPO, and the guesses."""
+    said = subprocess.run([program, *words], stdout=subprocess.PIPE, check=True).stdout.decode().splitlines()[-1]
     found = dict(pair.partition("=")[::2] for pair in said.split())
     return [sum(map(int, found[name].split(","))) for name in ("rerun", "ggpo", "guessed")]
 
@@ -422,7 +423,7 @@ def main():
             name = "the duel's bots" if held == BOTS else f"{held} frames"
             print(f"| {name} | {rule} |", " | ".join(cells), "|", flush=True)
     for program in sys.argv[1:]:
-        print_matches(program)
+        print_matches(Path(program).with_name("faz-sim"))
 
 
 main()

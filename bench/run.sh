@@ -1,8 +1,8 @@
 #!/bin/bash
-# Measures rollduel against the plain program, and what guesses save and cost: bench/run.sh ROLLDUEL
+# Measures rollduel against the plain program, and what guesses save and cost: bench/run.sh ROLLDUEL, with faz-sim beside it
 # Both play the same scripts, and must write the same bytes. A time is that of a whole run, the least of 25. Then come the pages
 # that both touch at 50,000 frames, the instructions of 3,000 (by callgrind, if there is valgrind), and what a match of
-# 120,000 frames with `--guesses turns` takes. `st` is the share of this machine that its host took meanwhile. It takes some three
+# 120,000 frames with `--guesses best` takes. `st` is the share of this machine that its host took meanwhile. It takes some three
 # minutes.
 #
 # Measures which guesses are worth making, in some two minutes; with ROLLDUEL it plays a part of each match through it too:
@@ -124,7 +124,7 @@ print(f"pages at 50000 frames: {pages[0]} and {pages[1]}, {pages[0] / pages[1]:.
 if shutil.which("valgrind"):
     counts = [instructions(program, work / "3000.roll") for program in (rollduel, work / "plain")]
     print(f"instructions at 3000 frames: {counts[0]:.2f} M and {counts[1]:.2f} M, {counts[0] / counts[1]:.2f}")
-took, _, most = used([rollduel, "match", "--frames", "120000", "--guesses", "best", "--jobs", "16"])
+took, _, most = used([Path(rollduel).with_name("faz-sim"), "--frames", "120000", "--guesses", "best", "--jobs", "16"])
 print(f"a match of 120000 frames with 16 guesses a tick: {took:.1f} s, {most / 1000:.0f} MB, {most / 240000:.1f} KB a frame and side")
 taken, ticks = (after - then for after, then in zip(stolen(), before))
 print(f"st {100 * taken / ticks:.1f}\n", flush=True)

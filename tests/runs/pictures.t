@@ -9,10 +9,6 @@ What is printed is what is printed without a picture, and so is the status. The 
   $ rollduel play - --picture ahead.svg < ../examples/branch-ahead.roll | cmp - told
   $ grep -c 'standard input' ahead.svg
   2
-  $ rollduel match --frames 60 --lost 5 --picture match.svg > told
-  $ rollduel match --frames 60 --lost 5 | cmp - told
-  $ rollduel match --peers 3 --frames 60 --lost 5 --stop 0:30 --picture peers.svg > told
-  $ rollduel match --peers 3 --frames 60 --lost 5 --stop 0:30 | cmp - told
 
 The deepest rollback is told, and whose word made it.
 
@@ -44,54 +40,39 @@ A part of a play, and the states that were saved at a frame.
 
 Parts of no picture, and no part.
 
-  $ rollduel match --frames 5 --from 3
+  $ rollduel play ../examples/late-input.roll --from 3
   error: --from, --to and --tree can't be used without --picture
   [2]
   $ rollduel play ../examples/late-input.roll --tree 3
   error: --from, --to and --tree can't be used without --picture
   [2]
-  $ rollduel match --frames 5 --picture x.svg --from 3 --to 3
+  $ rollduel play ../examples/late-input.roll --picture x.svg --from 3 --to 3
   error: --to has to be past --from
   [2]
-  $ rollduel match --frames 3600 --picture x.svg --from 100 --to 701
+  $ rollduel play ../examples/late-input.roll --picture x.svg --from 100 --to 701
   error: --from 100 --to 701: a picture shows 600 frames at most
   [2]
   $ rollduel play ../examples/late-input.roll --picture x.svg --to 601
   error: --from 0 --to 601: a picture shows 600 frames at most
   [2]
-  $ rollduel match --frames 5 --picture x.svg --from 5
-  error: --from 5: the match ends at frame 5
-  [2]
-  $ rollduel match --frames 5 --picture x.svg --to 6
-  error: --to 6: the match ends at frame 5
-  [2]
-  $ rollduel match --frames 5 --picture x.svg --tree 6
-  error: --tree 6: the match ends at frame 5
-  [2]
   $ ls x.svg 2> why
   [2]
-  $ rollduel match --frames 700 --picture x.svg --from 100 --to 700 --tree 700 > told && grep -o 'frames 100 to 699' x.svg
-  frames 100 to 699
-  $ rm x.svg
 
 A file that is no picture isn't overwritten, but a picture is.
 
   $ echo 'my notes' > notes.svg
-  $ rollduel match --frames 5 --picture notes.svg > told
+  $ rollduel play ../examples/late-input.roll --picture notes.svg > told
   error: --picture notes.svg: this file is no picture, and isn't overwritten
   [2]
   $ cat notes.svg
   my notes
-  $ rollduel match --frames 5 | cmp - told
+  $ rollduel play ../examples/late-input.roll | cmp - told
   $ cp ../docs/pictures/match-lost.svg old.svg
   $ rollduel play ../examples/late-input.roll --picture old.svg > told && grep -c 'Worst rollback: 2 frames' old.svg
   1
 
 Nothing is drawn if nothing is played, or if the text can't be read.
 
-  $ rollduel match --frames 5 --threshold 9 --picture x.svg
-  error: --threshold takes 1 to 8 with 2 machines
-  [2]
   $ printf 'roll 1 players 5 local 1 delay 0,0,0,0,0 threshold 8\nS\n' > five
   $ rollduel play five --picture x.svg
   refused 3
@@ -122,12 +103,5 @@ Each allocation is refused in turn: the play ends whole with its picture, or say
   >     done | sort -u
   > }
   $ each rollduel play ../examples/branch-ahead.roll --picture y.svg
-  0 whole drawn 
-  2 nothing undrawn rollduel: out of memory
-
-In a match what a machine has no memory to hear comes with a later datagram, so that what is measured may differ.
-
-  $ each rollduel match --frames 3 --picture y.svg
-  0  drawn 
   0 whole drawn 
   2 nothing undrawn rollduel: out of memory

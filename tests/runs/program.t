@@ -318,11 +318,10 @@ Words that can't be understood, and help.
   $ rollduel play $(printf 'a\377')
   rollduel: cannot read
   [2]
-  $ for words in --help 'play --help' 'live --help' 'match --help' 'synctest --help' 'certify --help'; do rollduel $words > help || echo "status $?"; head -n 1 help; done
-  Plays scripts and matches of rollback sessions, tests games, and checks the claims of rollbacks.
+  $ for words in --help 'play --help' 'live --help' 'synctest --help' 'certify --help'; do rollduel $words > help || echo "status $?"; head -n 1 help; done
+  Plays scripts of rollback sessions, tests games, and checks the claims of rollbacks.
   Plays a script, and prints what the session answers to each line
   Plays a script on threads: a link, and workers that run guesses ahead
-  Plays a match over a bad network, and prints what its rollbacks cost
   Tests whether a game comes out the same twice, and prints what is found at each row
   Checks the claim of a rollback, and prints whether it is right
   $ rollduel --help 2>&1 >/dev/null

@@ -1,5 +1,4 @@
-Reads and writes that fail in mid-stream, for each task of the program: scripts, also played live with two workers, files of rows, and claims;
-and writes of a match.
+Reads and writes that fail in mid-stream, for each task of the program: scripts, also played live with two workers, files of rows, and claims.
 
   $ printf 'roll 1 players 2 local 1 delay 0,0 threshold 8\nL 1 1\nA\nL 1 1\nA\nR 2 0 3\nS\nC\n' > play
   $ printf 'rolltest 1 players 2\n4294967295,0\nx,3\n4294967295,4294967295\n' > synctest
@@ -9,7 +8,6 @@ and writes of a match.
   >     case $1 in
   >         synctest) echo "rollduel synctest synctest --frames 2";;
   >         live) echo "rollduel live live --workers 2";;
-  >         match) echo "rollduel match --frames 4";;
   >         *) echo "rollduel $1 $1";;
   >     esac
   > }
@@ -44,7 +42,6 @@ and writes of a match.
   run
   $ run certify | tee certify.whole
   yes: from 2 to 3 rerun 1
-  $ run match > match.whole
 
 A text of two pieces is read: the third read finds its end. Where a read fails nothing is written. A fourth read isn't made.
 
@@ -79,6 +76,6 @@ Three writes are made. Where one of them fails, or takes nothing, what was writt
   >         echo "$? $(head -c $(($third * ($n - 1))) $1.whole | cmp - told && echo front) $(cat why)"
   >     done
   > }
-  $ for task in play live synctest certify match; do writes $task REFUSE_WRITE; writes $task REFUSE_TAKING; done | sort | uniq -c | tr -s ' '
-   10 0 front 
-   30 2 front rollduel: cannot write
+  $ for task in play live synctest certify; do writes $task REFUSE_WRITE; writes $task REFUSE_TAKING; done | sort | uniq -c | tr -s ' '
+   8 0 front 
+   24 2 front rollduel: cannot write
