@@ -1,6 +1,6 @@
 -- Where the texts that an option takes stand in memory changes nothing: an argument has the same rule `at_home`, where they
 -- stand at one place.
-use Rattle.std.proofs.Common.{◌≡◌, ◌∙◌, ◌&&◌, ◌||◌, ap, ap₂, cond, refl, length, drop, not, ℕ, zero, suc, Bool, true, false, List, [], ◌∷◌, map, Option, Some, None, is_some, sym}
+use Rattle.std.proofs.Common.{◌≡◌, ◌∙◌, ◌&&◌, ◌||◌, ap, cond, refl, length, drop, not, ℕ, zero, suc, Bool, true, false, List, [], ◌∷◌, map, Option, Some, None, is_some, sym}
 use Rattle.std.specs.Prelude.{◌==◌, encode_utf8, find, fold, if◌then◌else◌, option_map, slice_get}
 use Rattle.std.specs.List.{list_any}
 use Rattle.std.specs.Option.{option_map_or}

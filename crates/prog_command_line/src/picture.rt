@@ -1,5 +1,5 @@
 //! The picture that the words ask for.
-ghost use Rattle.std.specs.Prelude.{◌≡◌, is_some, option_map};
+ghost use Rattle.std.specs.Prelude.{◌≡◌, option_map};
 ghost use Rattle.clap.specs.Words.{first_value, found_of};
 ghost use Rattle.prog_command_line.specs.Requests.{names_part, number_in, option_fault, picture_named, picture_of, window_fault, window_named};
 

@@ -13,7 +13,7 @@ ghost use Rattle.std.specs.Process.{exit_status};
 ghost use Rattle.clap.specs.Faults.{fault_of};
 ghost use Rattle.clap.specs.Kinds.{FailsBy};
 ghost use Rattle.clap.specs.Words.{kind_of};
-ghost use Rattle.prog_parts.specs.declared.fault.PlayFault.TheVariants.{NoMemory, Read as CannotRead, Write as CannotWrite};
+ghost use Rattle.prog_parts.specs.declared.fault.PlayFault.TheVariants.{NoMemory, Read as CannotRead};
 ghost use Rattle.prog_command_line.specs.Commands.{rollduel_app};
 ghost use Rattle.rollduel.specs.Endings.{HasStatus, ShowsOn, ShowsOnFile, EndsOn, EndsOnFile, EndsRefused, EndsUnpictured, IsPrinted, misused};
 ghost use Rattle.rollduel.specs.Requests.{IfLive, IfRefused, IfText, asked_by, picture_by, window_by};

@@ -1,4 +1,4 @@
-use Rattle.std.proofs.Common.{◌≡◌, ◌∙◌, ℕ, List, Bor, ap, map, refl, Option, None, Some}
+use Rattle.std.proofs.Common.{◌≡◌, ◌∙◌, ap, map, refl, Option, None, Some}
 use Rattle.std.specs.Prelude.{option_map, string_bytes}
 use Rattle.rollduel.specs.Requests.{Picture, picture_of, window_by}
 use Rattle.rollduel.specs.declared.picture.PictureRequest.{PictureRequest}
@@ -9,12 +9,6 @@ window_of : (asked : Option PictureRequest) → option_map (λ (one : PictureReq
 window_of None = refl
 window_of (Some asked) = refl
 
--- the path of its file
-path_of : (asked : Option PictureRequest)
-    → option_map (λ (path : Bor (List ℕ)). path.now) (option_map (λ (one : PictureRequest). one.path) asked) ≡ option_map (λ (picture : Picture). picture.0) (picture_of asked)
-path_of None = refl
-path_of (Some asked) = refl
-
 pub returns-in-Text-clause-shown_file : goal.returns-in-Text-clause-shown_file
 returns-in-Text-clause-shown_file g c =
     let shows : c.sight_of-sight.result.window ≡ window_by (map string_bytes c.args.words.now) =
@@ -23,15 +17,3 @@ returns-in-Text-clause-shown_file g c =
 
 pub returns-in-Live-clause-live_file : goal.returns-in-Live-clause-live_file
 returns-in-Live-clause-live_file g c = rw (← c.in_ok-line.ensures.request, c.in-Live.is) c.play_live-ending.ensures.file
-
-pub returns-in-Match-Ok-clause-path : goal.returns-in-Match-Ok-clause-path
-returns-in-Match-Ok-clause-path g c =
-    ap (option_map (λ (path : Bor (List ℕ)). path.now)) c.path_of-path.ensures ∙ path_of c.in_ok-line.line.picture
-    ∙ ap (λ (o : Option Picture). option_map (λ (picture : Picture). picture.0) o) c.in_ok-line.ensures.picture
-
-pub returns-in-Match-Ok-clause-no_picture : goal.returns-in-Match-Ok-clause-no_picture
-returns-in-Match-Ok-clause-no_picture g c = λ none.
-    let hides : c.sight_of-sight.result.window ≡ None =
-    ap (λ s. s.window) c.sight_of-sight.ensures ∙ window_of c.in_ok-line.line.picture
-    ∙ ap (λ (o : Option Picture). option_map (λ (picture : Picture). picture.1) o) (c.in_ok-line.ensures.picture ∙ none) in
-    ap (λ s. s.picture) (c.run-ending.ensures.none hides) ∙ ap (λ s. s.picture) c.sight_of-sight.ensures
