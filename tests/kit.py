@@ -1,9 +1,12 @@
 """The crates, and how `rt` has one checked: for the scripts beside this file."""
 import collections
+import shutil
 import subprocess
 from pathlib import Path
 
 ROOT = Path(__file__).resolve().parent.parent
+# Crates that are played without a proof, and how their files end beside what those of crates/ end in.
+TRIED, TRIED_END = ROOT / "tests" / "rattle", ".in"
 
 Crate = collections.namedtuple("Crate", "name folder of_kit own below")
 
@@ -36,6 +39,28 @@ def below(names):
     """The names of these crates of crates.txt, and of all below them."""
     crates = crates_of((ROOT / "crates.txt").read_text().splitlines())
     return list(dict.fromkeys(it for name in names for it in [*crates[name].below, name]))
+
+
+def folder_of(name):
+    """Where a crate is."""
+    return TRIED / name if (TRIED / name).is_dir() else ROOT / "crates" / name
+
+
+def put_crate(name, to):
+    """Puts a crate into a repository's crates/, without what was built of it."""
+    room = to / "crates" / name
+    shutil.copytree(folder_of(name), room, ignore=shutil.ignore_patterns("out"))
+    for file in sorted(room.rglob(f"*{TRIED_END}")):
+        file.rename(file.with_suffix(""))
+
+
+def put_repository(to):
+    """Makes a repository of all crates, those too that are played without a proof."""
+    lists = [(it / name).read_text() for it, name in [(ROOT, "crates.txt"), (TRIED, "crates")]]
+    (to / "crates.txt").write_text("".join(lists))
+    shutil.copy(ROOT / "HANDLES", to)
+    for name in crates_of("".join(lists).splitlines()):
+        put_crate(name, to)
 
 
 def root_of(crate):

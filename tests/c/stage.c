@@ -1,4 +1,4 @@
-/* The program c_stage: a session over the static library, told as text, as crates/test_stage tells one of Rattle. It reads
+/* The program c_stage: a session over the static library, told as text, as tests/rattle/test_stage tells one of Rattle. It reads
  * commands from standard input, a line each, and writes what comes of each.
  *
  * The first line is `game tally`, behind it `limit N` and `log N` if wanted; the second is a script's header. The commands are

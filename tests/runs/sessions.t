@@ -101,12 +101,6 @@ No replay makes a graft: it stops there.
   log 5; L 1 1; A; L 1 1; A; graft 9
   entry 4 is no call frame 2 state 11 log 4, again entry 4 is no call frame 4 state 1111 log 8
 
-Ship duels are for two to four players.
-
-  $ echo 'roll 3 players 5 local 1 delay 0,0,0,0,0 mask 0,0,0,0,0 threshold 8' | rollduel play --game duel -
-  refused 3
-  [1]
-
 Lines that can't be read: the number of each is told.
 
   $ printf 'games tally\n' | test_stage

@@ -63,11 +63,11 @@ Eight players, of whom each gives a word, and a duel of four.
   $ printf 'roll 1 players 4 local 1 delay 0,0,0,0 threshold 8\nS\n' | rollduel play - --game duel
   frame 0 from 0 rerun 0 settled 0 state 20480,15360,0,0,0,0,0 61440,46080,0,0,4,0,0 61440,15360,0,0,4,0,0 20480,46080,0,0,0,0,0 b0
 
-The claim with 256 paths is written again as it was read.
+Duels are for two to four players.
 
-  $ widest 255 > claim
-  $ { echo claim write; cat claim; } | test_stage | cmp - claim
-  $ [ $(wc -c < claim) -gt $((255 * 24 * 4)) ]
+  $ echo 'roll 3 players 5 local 1 delay 0,0,0,0,0 mask 0,0,0,0,0 threshold 8' | rollduel play --game duel -
+  refused 3
+  [1]
 
 Seventy thousand refusals are counted.
 
@@ -75,11 +75,6 @@ Seventy thousand refusals are counted.
   [1]
   $ uniq -c out | tr -s ' '
    70000 refused 101
-
-A list of a thousand numbers.
-
-  $ echo list 1000 | test_stage
-  same
 
 Of a text that is too long, one byte more than the greatest is taken from standard input.
 

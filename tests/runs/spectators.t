@@ -160,14 +160,14 @@ Where the game refuses to load the opening, game and ring are handed back, and c
   frame 1 state 0
   frame 2 state 1
 
-The rows of 100,000 frames to 32 spectators, 64 at a time. After that there is nothing more to send.
+The rows of 10,000 frames to 32 spectators, 64 at a time. After that there is nothing more to send.
 
-  $ { echo 'frames 100000'; echo feed; copies 32 add; echo 'relay 1563'; echo 'relay 100000'; echo seen; copies 32 '' \
-  > | awk '{ print "watch " NR - 1 }'; } | alone | sed "s/state $(before 100000)/after all/g" > all
+  $ { echo 'frames 10000'; echo feed; copies 32 add; echo 'relay 157'; echo 'relay 10000'; echo seen; copies 32 '' \
+  > | awk '{ print "watch " NR - 1 }'; } | alone | sed "s/state $(before 10000)/after all/g" > all
   $ sed -n '35,36p' all
-  sent 3200000
+  sent 320000
   sent 0
   $ sed -n '37p' all | grep -o 'settled after all'
   settled after all
   $ tail -n 32 all | sort | uniq -c | sed 's/^ *//'
-  32 shown after all turns 100000 refusals 0
+  32 shown after all turns 10000 refusals 0
