@@ -1,0 +1,131 @@
+#include "game.h"
+
+#include "../../programs/duel/duel.h"
+
+#include <inttypes.h>
+#include <stdio.h>
+#include <stdlib.h>
+#include <string.h>
+
+enum { GONE_ADDS = 5, TALLY_BELOW = 1000000, REQUESTS = 16 };
+
+/* ---- Games. */
+
+/* FNV-1a of the text of a state. */
+static uint64_t digest_of(const game *of, const void *state) {
+    char text[GAME_TEXT];
+    uint64_t digest = 0xcbf29ce484222325u;
+    of->text(state, text);
+    for (const char *at = text; *at != 0; at++)
+        digest = (digest ^ (uint8_t)*at) * 0x100000001b3u;
+    return digest;
+}
+
+static void tally_open(void *state, uint32_t players) {
+    (void)players;
+    *(uint32_t *)state = 0;
+}
+
+static void tally_step(void *state, const fazgrond_row *row) {
+    uint32_t *sum = state;
+    uint64_t total = 10 * (uint64_t)*sum;
+    for (uint32_t at = 0; at < row->count; at++)
+        total += row->gone >> at & 1 ? GONE_ADDS : (uint64_t)(at + 1) * row->words[at];
+    *sum = (uint32_t)(total % TALLY_BELOW);
+}
+
+static void tally_text(const void *state, char out[GAME_TEXT]) { snprintf(out, GAME_TEXT, "%" PRIu32, *(const uint32_t *)state); }
+
+static uint64_t tally_digest(const void *state) { return digest_of(&game_tally, state); }
+
+static void duel_game_open(void *state, uint32_t players) { duel_open(state, players); }
+
+static void duel_game_step(void *state, const fazgrond_row *row) { duel_step(state, row->words); }
+
+static void duel_game_text(const void *state, char out[GAME_TEXT]) { duel_text(state, out, GAME_TEXT); }
+
+static uint64_t duel_game_digest(const void *state) { return digest_of(&game_duel, state); }
+
+static void digest_open(void *state, uint32_t players) {
+    (void)players;
+    *(uint64_t *)state = 0;
+}
+
+static void digest_step(void *state, const fazgrond_row *row) {
+    uint64_t *digest = state;
+    for (uint32_t at = 0; at < row->count; at++)
+        *digest = (*digest ^ row->words[at]) * 0x100000001b3u + (row->gone >> at & 1) + 1;
+}
+
+static void digest_text(const void *state, char out[GAME_TEXT]) { snprintf(out, GAME_TEXT, "%016" PRIx64, *(const uint64_t *)state); }
+
+static uint64_t digest_digest(const void *state) { return *(const uint64_t *)state; }
+
+const game game_tally = { "tally", sizeof(uint32_t), tally_open, tally_step, tally_digest, tally_text };
+const game game_duel = { "duel", sizeof(duel), duel_game_open, duel_game_step, duel_game_digest, duel_game_text };
+const game game_digest = { "digest", sizeof(uint64_t), digest_open, digest_step, digest_digest, digest_text };
+
+/* ---- States: the current one, that of a job, and those in slots. */
+
+enum { CURRENT, OF_JOB, FIRST_SLOT };
+
+static void *state_at(const states *self, size_t place) { return self->bytes + place * self->game->size; }
+
+void *states_current(const states *self) { return state_at(self, CURRENT); }
+
+void *states_saved(const states *self, uint32_t slot) { return state_at(self, FIRST_SLOT + slot); }
+
+void states_open(states *self, const game *game, uint32_t players, uint32_t slots) {
+    states_close(self);
+    *self = (states){ .game = game, .slots = slots, .bytes = calloc(FIRST_SLOT + (size_t)slots, game->size) };
+    if (self->bytes == NULL)
+        abort();
+    game->open(states_current(self), players);
+    states_begin(self, states_current(self));
+}
+
+void states_close(states *self) {
+    free(self->bytes);
+    *self = (states){ 0 };
+}
+
+void states_begin(states *self, const void *opening) {
+    memset(self->is_taken, 0, sizeof self->is_taken);
+    self->is_taken[0] = true;
+    memmove(states_current(self), opening, self->game->size);
+    memcpy(states_saved(self, 0), states_current(self), self->game->size);
+}
+
+static void copy(const states *self, void *to, const void *from) { memcpy(to, from, self->game->size); }
+
+static bool is_proper(const states *self, const fazgrond_request *request) {
+    bool is_step = request->kind == FAZGROND_STEP || request->kind == FAZGROND_JOB_STEP;
+    bool is_save = request->kind == FAZGROND_SAVE || request->kind == FAZGROND_JOB_SAVE;
+    return is_step || (request->slot < self->slots && self->is_taken[request->slot] != is_save);
+}
+
+void states_carry_out(states *self, const fazgrond_request *request) {
+    uint32_t slot = request->slot;
+    if (!is_proper(self, request)) {
+        self->wrong = "a slot that is saved to is taken, or one that is loaded or freed isn't";
+        return;
+    }
+    switch (request->kind) {
+    case FAZGROND_LOAD: copy(self, states_current(self), states_saved(self, slot)), self->loads++; break;
+    case FAZGROND_SAVE: copy(self, states_saved(self, slot), states_current(self)), self->is_taken[slot] = true; break;
+    case FAZGROND_STEP: self->game->step(states_current(self), &request->row), self->steps++; break;
+    case FAZGROND_FREE: self->is_taken[slot] = false; break;
+    case FAZGROND_JOB_LOAD: copy(self, state_at(self, OF_JOB), states_saved(self, slot)); break;
+    case FAZGROND_JOB_SAVE: copy(self, states_saved(self, slot), state_at(self, OF_JOB)), self->is_taken[slot] = true; break;
+    case FAZGROND_JOB_STEP: self->game->step(state_at(self, OF_JOB), &request->row), self->job_steps++; break;
+    default: self->wrong = "a kind of request";
+    }
+}
+
+void states_carry_out_all(states *self, fazgrond_session *session) {
+    fazgrond_request requests[REQUESTS];
+    size_t count;
+    while ((count = fazgrond_take_requests(session, requests, REQUESTS)) > 0)
+        for (size_t at = 0; at < count; at++)
+            states_carry_out(self, &requests[at]);
+}

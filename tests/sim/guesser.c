@@ -1,0 +1,105 @@
+#include "guesser.h"
+
+/* A ranking has so many guesses, a job so many rows past the last word of a guess, and a session takes guesses so far past its settled
+ * frame. */
+enum { RANKING = 32, REACH = 8, ROWS = 24 };
+
+typedef struct ranking {
+    fazgrond_foreseen guesses[RANKING];
+    size_t count, next;
+} ranking;
+
+/* What came of a guess: all of it was kept already, its branch was taken in, or refused. */
+typedef enum came { CAME_KEPT, CAME_TAKEN, CAME_REFUSED } came;
+
+int32_t guesser_open(guesser *self, const uint32_t *likely, size_t count) {
+    static const uint32_t no_parts[1] = { 0 };
+    int32_t why = FAZGROND_OK;
+    for (uint32_t at = 0; at < self->players && self->most > 0 && why == FAZGROND_OK; at++)
+        if (at != self->me)
+            why = fazgrond_habits_open(&self->habits[at], no_parts, 0, likely, count);
+    return why;
+}
+
+void guesser_close(guesser *self) {
+    for (uint32_t at = 0; at < FAZGROND_PLAYERS; at++)
+        fazgrond_habits_close(&self->habits[at]);
+}
+
+static void note(guesser *self, fazgrond_session *session, uint32_t place) {
+    uint32_t word;
+    while (fazgrond_confirmed_word(session, (uint8_t)(place + 1), self->noted[place], &word) == FAZGROND_OK) {
+        fazgrond_habits_note(&self->habits[place], word);
+        self->noted[place]++;
+    }
+}
+
+/* The last frame to which the session takes guesses. */
+static uint32_t reach_of(const guesser *self, fazgrond_session *session, uint32_t *settled) {
+    fazgrond_settled(session, settled);
+    return *settled + ROWS < self->limit ? *settled + ROWS : self->limit;
+}
+
+/* The guesses of a player's words, if the session takes any. */
+static void rank(guesser *self, fazgrond_session *session, uint32_t place, ranking *of) {
+    uint32_t frame = 0, settled = 0;
+    *of = (ranking){ 0 };
+    fazgrond_frame(session, &frame);
+    if (settled < reach_of(self, session, &settled) && frame > self->noted[place])
+        of->count = fazgrond_habits_guesses(&self->habits[place], frame - self->noted[place], of->guesses, RANKING);
+}
+
+/* The place of the player whose next guess is worth the most; `players` if none is worth anything. */
+static uint32_t best_of(const guesser *self, const ranking *rankings) {
+    uint32_t best = self->players, most = 0;
+    for (uint32_t place = 0; place < self->players; place++) {
+        const ranking *of = &rankings[place];
+        if (of->next < of->count && most < of->guesses[of->next].worth) {
+            most = of->guesses[of->next].worth;
+            best = place;
+        }
+    }
+    return best;
+}
+
+/* The frame to which a guess is run: as far past its last word as a job goes. */
+static uint32_t until(const guesser *self, fazgrond_session *session, uint32_t place, uint32_t words) {
+    uint32_t settled = 0, reach = reach_of(self, session, &settled), wanted = self->noted[place] + words + REACH - 1;
+    uint32_t least = wanted > settled ? wanted : settled + 1;
+    return least < reach ? least : reach;
+}
+
+static int32_t make(guesser *self, fazgrond_session *session, states *states, uint32_t place, const fazgrond_foreseen *guess, came *came) {
+    uint32_t job, added, to = until(self, session, place, guess->count);
+    int32_t why = fazgrond_guess(session, (uint8_t)(place + 1), guess->words, guess->count, to, &job);
+    *came = CAME_KEPT;
+    if (why != FAZGROND_OK)
+        return why == FAZGROND_NOTHING ? FAZGROND_OK : why;
+    states_carry_out_all(states, session);
+    self->jobs++;
+    why = fazgrond_graft(session, job, &added);
+    self->taken += why == FAZGROND_OK;
+    *came = why == FAZGROND_OK ? CAME_TAKEN : CAME_REFUSED;
+    return why == FAZGROND_NO_MEMORY ? why : FAZGROND_OK;
+}
+
+int32_t guesser_turn(guesser *self, fazgrond_session *session, states *states, uint32_t gone) {
+    ranking rankings[FAZGROND_PLAYERS] = { 0 };
+    came came = CAME_KEPT;
+    int32_t why = FAZGROND_OK;
+    if (self->most == 0)
+        return FAZGROND_OK;
+    for (uint32_t place = 0; place < self->players; place++)
+        if (place != self->me) {
+            note(self, session, place);
+            if ((gone >> place & 1) == 0)
+                rank(self, session, place, &rankings[place]);
+        }
+    for (uint32_t taken = 0, best; taken < self->most && came != CAME_REFUSED && why == FAZGROND_OK; taken += came == CAME_TAKEN) {
+        best = best_of(self, rankings);
+        if (best == self->players)
+            break;
+        why = make(self, session, states, best, &rankings[best].guesses[rankings[best].next++], &came);
+    }
+    return why;
+}

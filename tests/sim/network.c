@@ -1,0 +1,84 @@
+#include "network.h"
+
+#include <stdlib.h>
+#include <string.h>
+
+static bool is_before(const datagram *one, const datagram *other) {
+    return one->due != other->due ? one->due < other->due : one->order < other->order;
+}
+
+static void swap(network *self, size_t one, size_t other) {
+    datagram *kept = self->way[one];
+    self->way[one] = self->way[other];
+    self->way[other] = kept;
+}
+
+static void make_room(network *self) {
+    if (self->count < self->room)
+        return;
+    self->room = 2 * self->room + 64;
+    self->way = realloc(self->way, self->room * sizeof *self->way);
+    if (self->way == NULL)
+        abort();
+}
+
+/* A copy with the bytes that it has alone. */
+static datagram *copied(const datagram *sent) {
+    datagram *made = malloc(offsetof(datagram, bytes) + sent->length);
+    if (made == NULL || sent->length > sizeof sent->bytes)
+        abort();
+    memcpy(made, sent, offsetof(datagram, bytes) + sent->length);
+    return made;
+}
+
+void network_put(network *self, const datagram *sent) {
+    datagram *made = copied(sent);
+    made->order = self->orders++;
+    make_room(self);
+    size_t at = self->count++;
+    self->way[at] = made;
+    for (; at > 0 && is_before(self->way[at], self->way[(at - 1) / 2]); at = (at - 1) / 2)
+        swap(self, at, (at - 1) / 2);
+}
+
+static void put_late(network *self, const datagram *sent, uint64_t now, uint32_t late) {
+    datagram put = { .due = now + self->conditions.delay + late * self->conditions.step, .from = sent->from, .to = sent->to };
+    put.length = sent->length;
+    memcpy(put.bytes, sent->bytes, sent->length);
+    network_put(self, &put);
+}
+
+void network_send(network *self, const datagram *sent, uint64_t now) {
+    const conditions *with = &self->conditions;
+    uint32_t first = draws_below(&self->draws, with->late + 1);
+    bool is_lost = draws_below(&self->draws, 100) < with->lost;
+    bool is_twice = draws_below(&self->draws, 100) < with->twice;
+    uint32_t second = draws_below(&self->draws, with->late + 1);
+    if (!is_lost)
+        put_late(self, sent, now, first);
+    if (!is_lost && is_twice)
+        put_late(self, sent, now, second);
+}
+
+uint64_t network_due(const network *self) { return self->count > 0 ? self->way[0]->due : UINT64_MAX; }
+
+datagram *network_take(network *self) {
+    datagram *first = self->way[0];
+    self->way[0] = self->way[--self->count];
+    for (size_t at = 0, least;; at = least) {
+        least = at;
+        for (size_t below = 2 * at + 1; below <= 2 * at + 2 && below < self->count; below++)
+            if (is_before(self->way[below], self->way[least]))
+                least = below;
+        if (least == at)
+            return first;
+        swap(self, at, least);
+    }
+}
+
+void network_close(network *self) {
+    while (self->count > 0)
+        free(self->way[--self->count]);
+    free(self->way);
+    *self = (network){ 0 };
+}

@@ -1,0 +1,24 @@
+/* What happens in a match, as JSON: an event a line. A trace that is null writes nothing. */
+#ifndef SIM_TRACE_H
+#define SIM_TRACE_H
+
+#include "observer.h"
+
+#include <stdio.h>
+
+typedef struct trace {
+    FILE *out;
+    uint32_t turn;
+} trace;
+
+/* A datagram that a machine sends, or that comes to it and is answered by the library with a code. */
+void trace_sent(trace *self, uint32_t from, uint32_t to, size_t length);
+void trace_came(trace *self, uint32_t from, uint32_t to, size_t length, int32_t code);
+
+/* What a machine's session asks of its game; and what that session or its peer tells. Frames are those of the match. */
+void trace_request(trace *self, uint32_t machine, const fazgrond_request *request);
+void trace_word(trace *self, uint32_t machine, uint32_t player, uint32_t frame, uint32_t word);
+void trace_roll(trace *self, uint32_t machine, const observer *seen);
+void trace_told(trace *self, uint32_t machine, const fazgrond_event *event);
+void trace_settled(trace *self, uint32_t machine, uint32_t frame, uint64_t digest);
+#endif
