@@ -69,10 +69,24 @@ static uint32_t until(const guesser *self, fazgrond_session *session, uint32_t p
     return least < reach ? least : reach;
 }
 
+/* A guess whose job found no free slot: those of jobs that weren't taken in are freed by a rollback, which changes nothing else here. */
+static int32_t guess_again(fazgrond_session *session, states *states, uint32_t place, const fazgrond_foreseen *guess, uint32_t to,
+                           uint32_t *job) {
+    fazgrond_row row;
+    uint32_t has_news = 1;
+    fazgrond_has_news(session, &has_news);
+    if (has_news != 0 || fazgrond_synchronize_input(session, &row) != FAZGROND_OK)
+        return FAZGROND_NO_MEMORY;
+    states_carry_out_all(states, session);
+    return fazgrond_guess(session, (uint8_t)(place + 1), guess->words, guess->count, to, job);
+}
+
 static int32_t make(guesser *self, fazgrond_session *session, states *states, uint32_t place, const fazgrond_foreseen *guess, came *came) {
     uint32_t job, added, to = until(self, session, place, guess->count);
     int32_t why = fazgrond_guess(session, (uint8_t)(place + 1), guess->words, guess->count, to, &job);
     *came = CAME_KEPT;
+    if (why == FAZGROND_NO_MEMORY)
+        why = guess_again(session, states, place, guess, to, &job);
     if (why != FAZGROND_OK)
         return why == FAZGROND_NOTHING ? FAZGROND_OK : why;
     states_carry_out_all(states, session);
