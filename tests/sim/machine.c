@@ -1,6 +1,6 @@
 #include "machine.h"
 
-#include "../../lib/sha256.h"
+#include "hello.h"
 
 #include <stdlib.h>
 #include <string.h>
@@ -8,8 +8,6 @@
 /* The streams from which is drawn what machine 0 presses, how it is deceived, and its first and second opening; the others follow. */
 enum { WORD_STREAM = 16, ENEMY_STREAM = 48, DRAW_STREAM = 64, LATER_DRAW_STREAM = 80 };
 enum { CHOICES = 4, HOSTILE_EACH = 50, MOST_HEARD = 4096, MOST_TOLD = 64 };
-/* Where a packet has its kind, and a hello what its machine is able to (docs/WIRE.md). */
-enum { KIND_AT = 13, HELLO = 0, ABILITIES_AT = 60, CARRIES = 1 };
 
 /* What a player chooses among: for the duel nothing, thrust, a turn to the left, and thrust with fire. */
 static const uint32_t tally_choices[CHOICES] = { 0, 1, 2, 3 }, duel_choices[CHOICES] = { 0, 1, 2, 9 };
@@ -536,18 +534,10 @@ static void take_events(machine *self) {
     self->is_silent |= self->dropped != NEVER && !plan_stays(self->plan, self->me);
 }
 
-/* A hello says that its machine carries, if its match goes on in epochs. Where no line breaks, nobody is to carry. */
-static void say_no_carrying(const machine *self, datagram *made) {
-    bool is_hello = made->length > ABILITIES_AT && made->bytes[KIND_AT] == HELLO;
-    if (is_hello && plan_goes_on(self->plan) && !plan_breaks_lines(self->plan)) {
-        made->bytes[ABILITIES_AT] &= (uint8_t)~CARRIES;
-        seal(made->bytes, made->length, (seal_key){ .number = plan_number(self->plan) });
-    }
-}
-
 /* On a line that is broken a datagram is lost. */
 static void send(machine *self, network *to, datagram *made, uint32_t turn) {
-    say_no_carrying(self, made);
+    if (plan_goes_on(self->plan) && !plan_breaks_lines(self->plan))
+        hello_says_no_carrying(made->bytes, made->length, plan_number(self->plan), self->epoch.id);
     self->counts.sent++;
     self->counts.bytes += made->length;
     trace_sent(self->trace, made->from, made->to, made->length);
