@@ -43,11 +43,12 @@ static void must(world *self, bool is_so, const char *what) {
 
 static void carry_out_one(world *self, machine *at, aside *job) {
     const fazgrond_request *request = &job->requests[job->done++];
+    uint64_t *saved = states_saved(&at->states, request->slot);
     if (request->kind != FAZGROND_JOB_STEP)
-        must(self, request->slot < world_slots(self) && at->is_taken[request->slot], "a job's slot isn't its own");
+        must(self, request->slot < world_slots(self) && at->states.is_taken[request->slot], "a job's slot isn't its own");
     switch (request->kind) {
-    case FAZGROND_JOB_LOAD: job->state = at->saved[request->slot]; break;
-    case FAZGROND_JOB_SAVE: at->saved[request->slot] = job->state; break;
+    case FAZGROND_JOB_LOAD: job->state = *saved; break;
+    case FAZGROND_JOB_SAVE: *saved = job->state; break;
     default: job->state = world_state_after(job->state, &request->row);
     }
 }
@@ -97,8 +98,8 @@ static void take_requests(world *self, machine *at, aside *job) {
         if (self->wrong != NULL)
             return;
         if (request.kind == FAZGROND_JOB_SAVE) {
-            must(self, !at->is_taken[request.slot], "a job's slot isn't free");
-            at->is_taken[request.slot] = true;
+            must(self, !at->states.is_taken[request.slot], "a job's slot isn't free");
+            at->states.is_taken[request.slot] = true;
         }
         job->requests[job->count++] = request;
     }
@@ -195,7 +196,7 @@ static outcome play(const setup *with, bool is_guessing, uint32_t milliseconds) 
     trial_nothing_but(self, 0);
     for (uint32_t who = 0; who < with->machines; who++) {
         const machine *at = &self->machine[who];
-        made.again[who] = at->steps - at->frame;
+        made.again[who] = at->states.steps - at->frame;
         made.frames = at->settled < made.frames ? at->settled : made.frames;
         trial_must_of(world_agree(self, 0, who, milliseconds / 100), who, "the match goes on, and all agree");
     }

@@ -301,14 +301,14 @@ static void must_stand(world *self, uint32_t milliseconds) {
     uint64_t states[MACHINES];
     for (uint32_t who = 0; who < self->setup.machines; who++) {
         entries[who] = world_log(self, who);
-        rolled_back[who] = self->machine[who].rolled_back;
-        states[who] = self->machine[who].state;
+        rolled_back[who] = self->machine[who].states.loads;
+        states[who] = world_state(&self->machine[who]);
     }
     world_run(self, milliseconds);
     for (uint32_t who = 0; who < self->setup.machines; who++) {
         trial_must_of(world_log(self, who) == entries[who], who, "its log stands");
-        trial_must_of(self->machine[who].rolled_back == rolled_back[who], who, "nothing is rolled back");
-        trial_must_of(self->machine[who].state == states[who], who, "it shows the same");
+        trial_must_of(self->machine[who].states.loads == rolled_back[who], who, "nothing is rolled back");
+        trial_must_of(world_state(&self->machine[who]) == states[who], who, "it shows the same");
     }
 }
 
@@ -329,9 +329,9 @@ static void ends(uint32_t machines, bool is_idle, uint32_t loss, uint32_t seed) 
     for (uint32_t who = 0; who < machines; who++) {
         const machine *at = &self->machine[who];
         trial_must_of(at->frame == 200 && at->settled == 200, who, "all frames are settled");
-        trial_must_of(at->state == at->history[200], who, "what is shown is the settled state");
-        trial_must_of(at->state == self->machine[0].state, who, "all show the same");
-        trial_must_of(!is_idle || at->rolled_back == 0, who, "what is predicted rightly isn't rolled back");
+        trial_must_of(world_state(at) == at->history[200], who, "what is shown is the settled state");
+        trial_must_of(world_state(at) == world_state(&self->machine[0]), who, "all show the same");
+        trial_must_of(!is_idle || at->states.loads == 0, who, "what is predicted rightly isn't rolled back");
     }
     must_stand(self, 20000);
     trial_nothing_but(self, 0);

@@ -270,7 +270,7 @@ static void is_told_past(bool is_word, uint32_t seed) {
     trial_case("the right session is told %s past the peer, seed %u", is_word ? "a word" : "that a player left", (unsigned)seed);
     world *self = begin(seed);
     machine *at = &self->machine[0];
-    uint64_t shown = at->state;
+    uint64_t shown = world_state(at);
     uint32_t frame = 0, repeated = 0;
     datagram come = next_of_the_other(self);
     fazgrond_confirmed(&at->session, 2, &frame);
@@ -286,7 +286,7 @@ static void is_told_past(bool is_word, uint32_t seed) {
         world_carry_out(self, 0);
     }
     free(told.entries);
-    trial_must(at->state == shown, "it shows the same as before");
+    trial_must(world_state(at) == shown, "it shows the same as before");
     must_go_on(self);
 }
 

@@ -2,7 +2,7 @@
 #ifndef TRIALS_TRIALS_H
 #define TRIALS_TRIALS_H
 
-#include "world.h"
+#include "../../sim/world.h"
 
 /* Begins a case, which ends the one before it. */
 void trial_case(const char *format, ...)

@@ -3,7 +3,7 @@
 #include <stdlib.h>
 #include <string.h>
 
-enum { MOST_AT_ONCE = 256, BYES = 3, REQUESTS = 16 };
+enum { MOST_AT_ONCE = 256, BYES = 3, REQUESTS = 16, WORLD_STREAM = 0, NETWORK_STREAM = 32 };
 
 const setup plain = {
     .machines = 2, .rate = 60, .delay = 20, .silent_after = FAZGROND_SILENT_AFTER, .notify_after = FAZGROND_NOTIFY_AFTER, .seed = 1
@@ -13,79 +13,26 @@ static world the_world;
 
 /* ---- Numbers by chance. */
 
-static uint64_t next_random(world *self) {
-    self->random ^= self->random << 13;
-    self->random ^= self->random >> 7;
-    self->random ^= self->random << 17;
-    return self->random * 0x2545f4914f6cdd1du;
-}
-
-uint32_t world_draw(world *self, uint32_t below) { return (uint32_t)((next_random(self) >> 32) * below >> 32); }
+uint32_t world_draw(world *self, uint32_t below) { return draws_below(&self->random, below); }
 
 uint32_t world_millis(const world *self) { return (uint32_t)(self->now / 1000); }
 
 uint32_t world_clock(const world *self, uint32_t who) { return (uint32_t)((int64_t)(self->now / 1000) + self->machine[who].clock_ahead); }
 
-/* ---- The network: a heap of what is on its way. */
-
-static bool is_before(const datagram *one, const datagram *other) {
-    return one->due != other->due ? one->due < other->due : one->order < other->order;
-}
-
-static void swap(world *self, size_t one, size_t other) {
-    datagram *kept = self->way[one];
-    self->way[one] = self->way[other];
-    self->way[other] = kept;
-}
-
-static void put_on_way(world *self, datagram *sent) {
-    if (self->on_way == self->way_room) {
-        self->way_room = 2 * self->way_room + 64;
-        self->way = realloc(self->way, self->way_room * sizeof *self->way);
-        if (self->way == NULL)
-            abort();
-    }
-    size_t at = self->on_way++;
-    self->way[at] = sent;
-    for (; at > 0 && is_before(self->way[at], self->way[(at - 1) / 2]); at = (at - 1) / 2)
-        swap(self, at, (at - 1) / 2);
-}
-
-static datagram *take_from_way(world *self) {
-    datagram *first = self->way[0];
-    self->way[0] = self->way[--self->on_way];
-    for (size_t at = 0, least;; at = least) {
-        least = at;
-        for (size_t below = 2 * at + 1; below <= 2 * at + 2 && below < self->on_way; below++)
-            if (is_before(self->way[below], self->way[least]))
-                least = below;
-        if (least == at)
-            return first;
-        swap(self, at, least);
-    }
-}
+/* ---- The network. A moment is a microsecond. */
 
 void world_send(world *self, uint32_t from, uint32_t to, const uint8_t *bytes, size_t length, uint32_t milliseconds) {
-    datagram *sent = malloc(sizeof *sent);
-    if (sent == NULL || length > sizeof sent->bytes)
+    datagram sent = { .due = self->now + 1000u * (uint64_t)milliseconds, .from = from, .to = to, .length = length };
+    if (length > sizeof sent.bytes)
         abort();
-    sent->due = self->now + 1000u * (uint64_t)milliseconds;
-    sent->order = self->orders++;
-    sent->from = from;
-    sent->to = to;
-    sent->length = length;
-    memcpy(sent->bytes, bytes, length);
-    put_on_way(self, sent);
+    memcpy(sent.bytes, bytes, length);
+    network_put(&self->network, &sent);
 }
 
 /* What a machine sends goes the way of the network: it is lost, or late, or comes twice. */
 static void post(world *self, datagram *sent) {
-    const setup *with = &self->setup;
-    if (self->watcher != NULL && !self->watcher(self, sent))
-        return;
-    for (int copies = world_draw(self, 100) < with->copies ? 2 : 1; copies > 0; copies--)
-        if (world_draw(self, 100) >= with->loss)
-            world_send(self, sent->from, sent->to, sent->bytes, sent->length, with->delay + world_draw(self, with->jitter + 1));
+    if (self->watcher == NULL || self->watcher(self, sent))
+        network_send(&self->network, sent, self->now);
 }
 
 static void arrive(world *self, datagram *come) {
@@ -106,34 +53,11 @@ static void is_wrong(world *self, const char *what) {
         self->wrong = what;
 }
 
-uint64_t world_state_after(uint64_t state, const fazgrond_row *row) {
-    for (uint32_t at = 0; at < row->count; at++)
-        state = (state ^ row->words[at]) * 0x100000001b3u + (row->gone >> at & 1) + 1;
-    return state;
-}
+uint64_t world_state(const machine *of) { return *(const uint64_t *)states_current(&of->states); }
 
-static void carry_out(world *self, machine *at, const fazgrond_request *request) {
-    uint32_t slot = request->slot;
-    if (slot >= world_slots(self) || (request->kind != FAZGROND_STEP && at->is_taken[slot] != (request->kind != FAZGROND_SAVE))) {
-        is_wrong(self, "a slot that is saved to is taken, or one that is loaded or freed isn't");
-        return;
-    }
-    switch (request->kind) {
-    case FAZGROND_LOAD:
-        at->state = at->saved[slot];
-        at->rolled_back++;
-        break;
-    case FAZGROND_SAVE:
-        at->saved[slot] = at->state;
-        at->is_taken[slot] = true;
-        break;
-    case FAZGROND_STEP:
-        at->state = world_state_after(at->state, &request->row);
-        at->steps++;
-        break;
-    case FAZGROND_FREE: at->is_taken[slot] = false; break;
-    default: is_wrong(self, "a kind of request");
-    }
+uint64_t world_state_after(uint64_t state, const fazgrond_row *row) {
+    game_digest.step(&state, row);
+    return state;
 }
 
 /* Keeps the state after one settled row more; the first one is the opening. */
@@ -152,7 +76,7 @@ static void keep_history(machine *at, uint32_t frame, uint64_t state) {
 static void look_at_settled(world *self, machine *at) {
     uint32_t frame, slot;
     fazgrond_row row;
-    if (fazgrond_settled_slot(&at->session, &frame, &slot) != FAZGROND_OK || frame < at->settled || slot >= SLOTS) {
+    if (fazgrond_settled_slot(&at->session, &frame, &slot) != FAZGROND_OK || frame < at->settled || slot >= world_slots(self)) {
         is_wrong(self, "the settled frame fell");
         return;
     }
@@ -161,7 +85,7 @@ static void look_at_settled(world *self, machine *at) {
             is_wrong(self, "a settled row is missing");
         keep_history(at, at->settled + 1, world_state_after(at->history[at->settled], &row));
     }
-    if (at->saved[slot] != at->history[frame] || !at->is_taken[slot])
+    if (*(uint64_t *)states_saved(&at->states, slot) != at->history[frame] || !at->states.is_taken[slot])
         is_wrong(self, "the settled state isn't that of the settled rows");
     if (fazgrond_peer_note_settled(&at->peer, &at->session, at->history[frame]) != FAZGROND_OK)
         is_wrong(self, "a settled state isn't noted");
@@ -172,8 +96,13 @@ void world_carry_out(world *self, uint32_t who) {
     fazgrond_request requests[REQUESTS];
     size_t count;
     while ((count = fazgrond_take_requests(&at->session, requests, REQUESTS)) > 0)
-        for (size_t one = 0; one < count; one++)
-            carry_out(self, at, &requests[one]);
+        for (size_t one = 0; one < count; one++) {
+            states_carry_out(&at->states, &requests[one]);
+            if (requests[one].kind >= FAZGROND_JOB_LOAD)
+                is_wrong(self, "a kind of request");
+        }
+    if (at->states.wrong != NULL)
+        is_wrong(self, at->states.wrong);
 }
 
 /* ---- A machine. */
@@ -225,16 +154,12 @@ void world_open_session(world *self, uint32_t who) {
     fazgrond_settings settings = world_settings(self, who);
     if (fazgrond_open(&at->session, &settings) != FAZGROND_OK || fazgrond_limit_slots(&at->session, world_slots(self)) != FAZGROND_OK)
         is_wrong(self, "a session doesn't open");
-    memset(at->is_taken, 0, sizeof at->is_taken);
-    at->is_taken[0] = true;
-    at->state = at->saved[0] = 0;
+    states_open(&at->states, &game_digest, players_of(&self->setup), world_slots(self));
 }
 
 void world_open(world *self, uint32_t who) {
     machine *at = &self->machine[who];
-    do
-        at->draw = next_random(self);
-    while (at->draw == 0);
+    at->draw = draws_wide(&self->random);
     fazgrond_match match = match_of(self, who);
     empty(at);
     world_open_session(self, who);
@@ -242,7 +167,7 @@ void world_open(world *self, uint32_t who) {
                              : fazgrond_peer_open(&at->peer, &at->session, &match))
         != FAZGROND_OK)
         is_wrong(self, "a machine doesn't open");
-    at->frame = at->wait = at->rolled_back = at->steps = 0;
+    at->frame = at->wait = 0;
     keep_history(at, 0, 0);
     at->opening++;
     at->is_open = true;
@@ -417,10 +342,12 @@ world *world_begin(const setup *with) {
     world *self = &the_world;
     world_end(self);
     self->setup = *with;
-    self->random = 0x9e3779b97f4a7c15u * (2 * with->seed + 1);
+    self->random = draws_of(with->seed, WORLD_STREAM);
+    self->network.draws = draws_of(with->seed, NETWORK_STREAM);
+    self->network.conditions = (conditions){ 1000u * (uint64_t)with->delay, 1000, with->jitter, with->loss, with->copies };
     for (uint32_t one = 0; one < MACHINES; one++)
         for (uint32_t other = 0; other <= one; other++)
-            self->numbers[one][other] = self->numbers[other][one] = with->has_pair_numbers ? next_random(self) : 0x5eed5eed5eed5eed;
+            self->numbers[one][other] = self->numbers[other][one] = with->has_pair_numbers ? draws_wide(&self->random) : 0x5eed5eed5eed5eed;
     self->now = 1000000;
     for (uint32_t who = 0; who < MACHINES; who++)
         self->machine[who].clock_ahead = world_draw(self, 1 << 30);
@@ -433,11 +360,10 @@ void world_end(world *self) {
         fazgrond_peer_close(&at->peer);
         fazgrond_close(&at->session);
         empty(at);
+        states_close(&at->states);
         free(at->history);
     }
-    while (self->on_way > 0)
-        free(self->way[--self->on_way]);
-    free(self->way);
+    network_close(&self->network);
     memset(self, 0, sizeof *self);
 }
 
@@ -462,13 +388,13 @@ static uint64_t turn_length(world *self) {
 static bool step(world *self, uint64_t until) {
     uint32_t who = next_machine(self);
     uint64_t turn_at = who < MACHINES ? self->machine[who].next_turn : UINT64_MAX;
-    uint64_t come_at = self->on_way > 0 ? self->way[0]->due : UINT64_MAX;
+    uint64_t come_at = network_due(&self->network);
     uint64_t at = come_at <= turn_at ? come_at : turn_at;
     if (at >= until)
         return false;
     self->now = at > self->now ? at : self->now;
     if (come_at <= turn_at) {
-        arrive(self, take_from_way(self));
+        arrive(self, network_take(&self->network));
     } else {
         self->machine[who].next_turn += turn_length(self);
         turn(self, who);

@@ -1,11 +1,12 @@
 /* A world of machines that play a match over the library, all in one process: their games, their clocks, and the network between
  * them. There is no socket and no waiting, and the same seed always leads to the same. A trial lets time pass, has something go
  * wrong, and looks at what the machines were told. */
-#ifndef TRIALS_WORLD_H
-#define TRIALS_WORLD_H
+#ifndef SIM_WORLD_H
+#define SIM_WORLD_H
 
-#include <fazgrond.h>
-#include <stdbool.h>
+#include "game.h"
+#include "network.h"
+
 #include <stdio.h>
 
 enum { MACHINES = FAZGROND_MACHINES, SLOTS = 512, MOST_TOLD = 1 << 15, CODES = 320 };
@@ -34,14 +35,6 @@ typedef struct setup {
 /* Two machines and 60 turns a second, 20 milliseconds one way. */
 extern const setup plain;
 
-typedef struct datagram {
-    uint64_t due; /* microseconds */
-    uint64_t order;
-    uint32_t from, to;
-    size_t length;
-    uint8_t bytes[1500];
-} datagram;
-
 /* What a machine was told, and when. */
 typedef struct told {
     uint64_t at; /* milliseconds of the world */
@@ -57,12 +50,10 @@ typedef struct machine {
     uint32_t opening; /* how often it was opened */
     uint64_t next_turn, turns;
 
-    /* The game: its state is a digest of all rows that led to it. */
-    uint64_t state, saved[SLOTS];
-    bool is_taken[SLOTS];
+    states states;     /* of the game whose state is a digest of all rows that led to it */
     uint64_t *history; /* the states after so many settled rows */
     uint32_t settled, room;
-    uint32_t frame, wait, rolled_back, steps;
+    uint32_t frame, wait;
     bool is_short; /* a roll had no slot: it is made again in the next turn */
 
     /* What is wrong with it. */
@@ -91,11 +82,10 @@ struct world {
     setup setup;
     machine machine[MACHINES];
     uint64_t now; /* microseconds */
-    uint64_t random, orders;
+    draws random;
     uint64_t numbers[MACHINES][MACHINES];
     bool is_cut[MACHINES][MACHINES]; /* nothing goes from one to another */
-    datagram **way;                  /* what is on its way, as a heap */
-    size_t on_way, way_room;
+    network network;
     on_sent *watcher;
     void *watchers; /* what the watcher knows */
     in_turn *after_turn;
@@ -163,7 +153,8 @@ size_t world_log(world *self, uint32_t who);
 /* How many states a game has room for. */
 uint32_t world_slots(const world *self);
 
-/* The game: the state after one row more. */
+/* The state that a machine shows, and one after one row more. */
+uint64_t world_state(const machine *of);
 uint64_t world_state_after(uint64_t state, const fazgrond_row *row);
 
 /* The name of an event. */
