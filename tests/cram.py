@@ -1,11 +1,14 @@
-"""The files of commands in tests/runs, each with what it prints, for the scripts beside this one and below.
+#!/usr/bin/env python3
+"""Files of commands, each with what it prints (tests/runs, tests/sim/runs): tests/cram.py PROGRAM.. FILE.t..
 
 They have the form of the tool cram: what doesn't begin with two spaces is a comment; a line `  $ ` is a command for the shell, which lines
 `  > ` go on with; then comes what it prints on both streams, and `  [N]` where its status isn't 0. The commands of a file share a shell and
-a new folder; the examples of the project stand in `../examples`, and its documents in `../docs`.
+a new folder; the examples of the project stand in `../examples`, and its documents in `../docs`. The last line is `N passed, M failed`, by
+commands. The scripts beside this one and below play those that need more.
 """
 import re
 import subprocess
+import sys
 import tempfile
 from pathlib import Path
 
@@ -68,3 +71,15 @@ def play(file, programs, variables, shown=""):
             print(f"{shown}{file.name}:{number}: $ {lines[0]}")
             print("\n".join([*(f"  - {it}" for it in wanted), *(f"  + {it}" for it in got)]))
     return len(asked) - failed, failed
+
+
+def main():
+    programs = {Path(it).name: it for it in sys.argv[1:] if not it.endswith(".t")}
+    counts = [play(Path(it), programs, {}) for it in sys.argv[1:] if it.endswith(".t")]
+    passed, failed = map(sum, zip(*counts))
+    print(f"{passed} passed, {failed} failed")
+    return failed != 0
+
+
+if __name__ == "__main__":
+    sys.exit(main())
