@@ -47,6 +47,11 @@ static bool has_two_words(const fazgrond_row *row) { return row->count > 1 && ro
 
 static uint32_t without_lowest(uint32_t bits) { return bits & (bits - 1); }
 
+static void *volatile leak;
+
+/* Memory that is never given back. */
+static void leak_some(size_t bytes) { leak = calloc(1, bytes); }
+
 /* ---- What a session asks of the game. */
 
 static bool is_unasked(const fazgrond_request *request) {
@@ -90,6 +95,17 @@ WRAPS(size_t, fazgrond_take_requests, fazgrond_session *session, fazgrond_reques
 }
 
 /* ---- What a session is told, and answers. */
+
+WRAPS(void, fazgrond_close, fazgrond_session *session) {
+    if (session->full != 0 && plays("what-is-closed-keeps-its-memory", 5))
+        *session = (fazgrond_session)FAZGROND_CLOSED;
+    __real_fazgrond_close(session);
+}
+
+WRAPS(int32_t, fazgrond_peer_open_carrying, fazgrond_peer *peer, fazgrond_session *session, const fazgrond_match *match) {
+    int32_t code = __real_fazgrond_peer_open_carrying(peer, session, match);
+    return code == FAZGROND_NO_MEMORY && plays("an-opening-without-memory-is-called-done", 1) ? FAZGROND_OK : code;
+}
 
 WRAPS(int32_t, fazgrond_add_local_input, fazgrond_session *session, uint8_t player, uint32_t word) {
     if (player == 2 && plays_once("gives-the-word-after-its-own", 200))
@@ -229,6 +245,8 @@ WRAPS(int32_t, fazgrond_graft, fazgrond_session *session, uint32_t job, uint32_t
 WRAPS(int32_t, fazgrond_peer_receive, fazgrond_peer *peer, fazgrond_session *session, const uint8_t *bytes, size_t length,
       uint32_t now) {
     int32_t code = __real_fazgrond_peer_receive(peer, session, bytes, length, now);
+    if (is_refusal(code) && plays("what-is-refused-takes-memory", 100))
+        leak_some(256);
     if (is_refusal(code) && plays("a-refused-datagram-is-called-heard", 10))
         return FAZGROND_OK;
     if (is_refusal(code) && plays("a-refusal-has-another-code", 10))
@@ -605,6 +623,8 @@ WRAPS(int32_t, fazgrond_viewer_row, fazgrond_viewer *viewer, fazgrond_row *row) 
 WRAPS(int32_t, fazgrond_taker_receive, fazgrond_taker *taker, uint64_t number, const uint8_t *bytes, size_t length,
       fazgrond_heard *heard) {
     int32_t code = __real_fazgrond_taker_receive(taker, number, bytes, length, heard);
+    if (plays("a-piece-takes-memory", 20))
+        leak_some(64);
     if (code == FAZGROND_OK && heard->what == FAZGROND_STATE_WRONG && plays("a-wrong-state-is-called-whole", 1))
         heard->what = FAZGROND_STATE_WHOLE;
     if (code == FAZGROND_OK && heard->what == FAZGROND_PIECE_TAKEN && plays("a-state-is-called-whole-too-soon", 20))
