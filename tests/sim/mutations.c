@@ -216,8 +216,7 @@ WRAPS(int32_t, fazgrond_guess, fazgrond_session *session, uint8_t player, const 
       uint32_t *job) {
     uint32_t frame, repeated;
     int32_t code = __real_fazgrond_guess(session, player, words, count, until, job);
-    if (code == FAZGROND_OK && plays("confirms-its-guess", 50)
-        && __real_fazgrond_confirmed(session, player, &frame) == FAZGROND_OK)
+    if (code == FAZGROND_OK && plays("confirms-its-guess", 50) && __real_fazgrond_confirmed(session, player, &frame) == FAZGROND_OK)
         (void)fazgrond_remote_input(session, player, frame, words[0], &repeated);
     return code;
 }
@@ -242,8 +241,7 @@ WRAPS(int32_t, fazgrond_graft, fazgrond_session *session, uint32_t job, uint32_t
 
 /* ---- Peers: what they hear and send. */
 
-WRAPS(int32_t, fazgrond_peer_receive, fazgrond_peer *peer, fazgrond_session *session, const uint8_t *bytes, size_t length,
-      uint32_t now) {
+WRAPS(int32_t, fazgrond_peer_receive, fazgrond_peer *peer, fazgrond_session *session, const uint8_t *bytes, size_t length, uint32_t now) {
     int32_t code = __real_fazgrond_peer_receive(peer, session, bytes, length, now);
     if (is_refusal(code) && plays("what-is-refused-takes-memory", 100))
         leak_some(256);
@@ -273,8 +271,8 @@ WRAPS(int32_t, fazgrond_peer_is_running, fazgrond_peer *peer, uint32_t *flag) {
     return code;
 }
 
-WRAPS(int32_t, fazgrond_peer_send, fazgrond_peer *peer, fazgrond_session *session, uint8_t machine, uint32_t now, uint8_t *out,
-      size_t room, size_t *length) {
+WRAPS(int32_t, fazgrond_peer_send, fazgrond_peer *peer, fazgrond_session *session, uint8_t machine, uint32_t now, uint8_t *out, size_t room,
+      size_t *length) {
     if (machine > 1 && plays("a-datagram-goes-to-another-machine", 200))
         machine--;
     int32_t code = __real_fazgrond_peer_send(peer, session, machine, now, out, room, length);
@@ -297,8 +295,7 @@ WRAPS(int32_t, fazgrond_peer_send_more, fazgrond_peer *peer, uint8_t *machine, u
     return code;
 }
 
-WRAPS(int32_t, fazgrond_peer_send_before, fazgrond_peer *peer, uint8_t machine, uint32_t now, uint8_t *out, size_t room,
-      size_t *length) {
+WRAPS(int32_t, fazgrond_peer_send_before, fazgrond_peer *peer, uint8_t machine, uint32_t now, uint8_t *out, size_t room, size_t *length) {
     int32_t code = __real_fazgrond_peer_send_before(peer, machine, now, out, room, length);
     if (code == FAZGROND_OK && plays("nothing-is-sent-of-the-epoch-before", 2))
         return FAZGROND_NOTHING;
@@ -309,7 +306,7 @@ WRAPS(int32_t, fazgrond_peer_send_before, fazgrond_peer *peer, uint8_t machine, 
 
 WRAPS(int32_t, fazgrond_peer_bye, fazgrond_peer *peer, uint8_t machine, uint8_t why, uint8_t *out, size_t room, size_t *length) {
     return machine == 1 && plays("a-machine-is-not-told-bye", 1) ? FAZGROND_NOTHING
-                                                               : __real_fazgrond_peer_bye(peer, machine, why, out, room, length);
+                                                                 : __real_fazgrond_peer_bye(peer, machine, why, out, room, length);
 }
 
 WRAPS(int32_t, fazgrond_peer_disconnect, fazgrond_peer *peer, uint8_t machine) {
@@ -620,8 +617,7 @@ WRAPS(int32_t, fazgrond_viewer_row, fazgrond_viewer *viewer, fazgrond_row *row) 
 
 /* ---- States in pieces. */
 
-WRAPS(int32_t, fazgrond_taker_receive, fazgrond_taker *taker, uint64_t number, const uint8_t *bytes, size_t length,
-      fazgrond_heard *heard) {
+WRAPS(int32_t, fazgrond_taker_receive, fazgrond_taker *taker, uint64_t number, const uint8_t *bytes, size_t length, fazgrond_heard *heard) {
     int32_t code = __real_fazgrond_taker_receive(taker, number, bytes, length, heard);
     if (plays("a-piece-takes-memory", 20))
         leak_some(64);
@@ -647,8 +643,8 @@ WRAPS(int32_t, fazgrond_taker_send, fazgrond_taker *taker, uint64_t number, uint
 
 WRAPS(int32_t, fazgrond_giver_reply, fazgrond_giver *giver, uint64_t number, uint8_t me, const uint8_t *bytes, size_t length, size_t place,
       uint8_t *out, size_t room, size_t *size) {
-    return __real_fazgrond_giver_reply(giver, number, me, bytes, length, place > 0 && plays("the-same-piece-is-given-again", 50) ? 0 : place,
-                                       out, room, size);
+    return __real_fazgrond_giver_reply(giver, number, me, bytes, length,
+                                       place > 0 && plays("the-same-piece-is-given-again", 50) ? 0 : place, out, room, size);
 }
 
 /* ---- Habits. */
