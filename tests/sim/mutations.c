@@ -116,13 +116,6 @@ WRAPS(int32_t, fazgrond_add_local_input, fazgrond_session *session, uint8_t play
     return code;
 }
 
-WRAPS(int32_t, fazgrond_synchronize_input, fazgrond_session *session, fazgrond_row *row) {
-    int32_t code = __real_fazgrond_synchronize_input(session, row);
-    if (code == FAZGROND_OK && has_two_words(row) && plays("a-synchronized-row-has-another-players-word", 200))
-        row->words[1] = row->words[0];
-    return code;
-}
-
 WRAPS(int32_t, fazgrond_advance_frame, fazgrond_session *session, fazgrond_reached *reached) {
     int32_t code = __real_fazgrond_advance_frame(session, reached);
     if (code == FAZGROND_NO_MEMORY && plays("a-roll-without-memory-is-called-done", 3))
@@ -178,11 +171,6 @@ WRAPS(int32_t, fazgrond_confirmed, fazgrond_session *session, uint8_t player, ui
     if (code == FAZGROND_OK && *words > 0 && plays("a-confirmed-word-is-not-counted", 5))
         --*words;
     return code;
-}
-
-WRAPS(int32_t, fazgrond_confirmed_word, fazgrond_session *session, uint8_t player, uint32_t frame, uint32_t *word) {
-    bool is_before = frame > 0 && is_first(session) && plays("a-confirmed-word-is-of-the-frame-before", 300);
-    return __real_fazgrond_confirmed_word(session, player, frame - is_before, word);
 }
 
 WRAPS(int32_t, fazgrond_input_frame, fazgrond_session *session, uint8_t player, uint32_t *frame) {
@@ -249,8 +237,6 @@ WRAPS(int32_t, fazgrond_peer_receive, fazgrond_peer *peer, fazgrond_session *ses
         return FAZGROND_OK;
     if (is_refusal(code) && plays("a-refusal-has-another-code", 10))
         return code == FAZGROND_NOT_SEALED ? FAZGROND_NO_DATAGRAM : FAZGROND_NOT_SEALED;
-    if (code == FAZGROND_NO_MEMORY && plays("words-without-memory-are-called-taken", 1))
-        return FAZGROND_OK;
     return code;
 }
 
@@ -474,7 +460,7 @@ WRAPS(int32_t, fazgrond_peer_mark, fazgrond_peer *peer, fazgrond_session *sessio
     if (plays("a-mark-lets-nobody-in", 1))
         memset(made.comes, 0, sizeof made.comes);
     int32_t code = __real_fazgrond_peer_mark(peer, session, player, &made);
-    if (is_void(code) && plays("a-void-mark-is-called-put", 2))
+    if (is_void(code) && plays("a-void-mark-is-called-put", 1))
         return FAZGROND_OK;
     if (code == FAZGROND_MARKED && plays("a-second-mark-is-called-put", 1))
         return FAZGROND_OK;
@@ -591,7 +577,7 @@ WRAPS(int32_t, fazgrond_viewer_receive, fazgrond_viewer *viewer, const uint8_t *
         --*rows;
     if (code == FAZGROND_OK && plays("what-a-viewer-heard-is-called-refused", 20))
         return FAZGROND_NOT_SEALED;
-    return is_refusal(code) && plays("a-refused-host-is-called-heard", 10) ? FAZGROND_OK : code;
+    return code;
 }
 
 WRAPS(int32_t, fazgrond_viewer_row, fazgrond_viewer *viewer, fazgrond_row *row) {
@@ -639,12 +625,6 @@ WRAPS(int32_t, fazgrond_taker_send, fazgrond_taker *taker, uint64_t number, uint
       size_t *size) {
     int32_t code = __real_fazgrond_taker_send(taker, number, me, most, out, room, size);
     return code == FAZGROND_OK && plays("missing-pieces-are-not-asked-for", 3) ? FAZGROND_NOTHING : code;
-}
-
-WRAPS(int32_t, fazgrond_giver_reply, fazgrond_giver *giver, uint64_t number, uint8_t me, const uint8_t *bytes, size_t length, size_t place,
-      uint8_t *out, size_t room, size_t *size) {
-    return __real_fazgrond_giver_reply(giver, number, me, bytes, length,
-                                       place > 0 && plays("the-same-piece-is-given-again", 50) ? 0 : place, out, room, size);
 }
 
 /* ---- Habits. */
