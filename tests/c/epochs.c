@@ -1359,6 +1359,18 @@ static void is_carried(uint32_t line, uint32_t how) {
     IS(epochs_played(), 4);
 }
 
+/* For so many turns nothing of the machine that puts a mark comes to one other, which then lacks words of the epoch that is over. */
+static void is_unheard_at_a_seam(uint32_t turns, uint32_t machines) {
+    open_all(terms_for(machines));
+    run(80);
+    OK(put(0, 0, mark_of_nothing()));
+    is_cut[0][1] = true;
+    run(turns);
+    is_cut[0][1] = false;
+    run_to_the_end(1000);
+    IS(epochs_played(), 2);
+}
+
 /* A line breaks in the turns of the seam itself, and heals. */
 static void breaks_at(uint32_t at, uint32_t held_turns) {
     terms of = terms_for(3);
@@ -2249,6 +2261,9 @@ static void try_stops(uint32_t every) {
 }
 
 static void try_lines(uint32_t every) {
+    for (uint32_t turns = 4; turns <= 40; turns += every < 4 ? 4 : 12)
+        for (uint32_t machines = 2; machines <= 3; machines++)
+            tries("nothing comes from who puts a mark", is_unheard_at_a_seam, turns, machines);
     for (uint32_t line = 0; line < 3; line++)
         for (uint32_t how = line % every % 4; how < 4; how += every)
             tries("a line is broken", is_carried, line, how);
