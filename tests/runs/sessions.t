@@ -29,7 +29,7 @@ starts from what was saved. In between there is no state, no plan and no claim.
 
 What is settled after a late word, and what is kept before anything and then; taken apart, the session hands back its game.
 
-  $ { printf "kept\n${late}seen\nrow 0\nrow 1\nkept\nlog\nparts\n"; } | two
+  $ { printf "kept\n${late}seen\nrow 0\nrow 1\nkept\ncounts\nlog\nparts\n"; } | two
   kept 1; 0 .
   ok
   frame 1 from 0 rerun 1 settled 0 state 1
@@ -41,6 +41,7 @@ What is settled after a late word, and what is kept before anything and then; ta
   1,3
   -
   kept 2; 1 .; 1 1,3
+  loads 4 saves 4 copies 1 turns 4 refusals 0
   log 6; L 1 1; A; L 1 1; A; R 2 0 3; S
   shown state 77 opening 0 turns 4 refusals 0
 
