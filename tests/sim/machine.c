@@ -546,9 +546,10 @@ static void send(machine *self, network *to, datagram *made, uint32_t turn) {
 }
 
 static void send_all(machine *self, network *to, uint32_t turn) {
-    datagram made = { .from = self->me };
+    datagram made;
     uint32_t now = machine_clock(turn);
     uint8_t other;
+    made.from = self->me;
     for (made.to = 0; made.to < self->plan->machines; made.to++) {
         if (fazgrond_peer_send(&self->peer, &self->session, (uint8_t)made.to, now, made.bytes, FAZGROND_DATAGRAM, &made.length)
             == FAZGROND_OK)

@@ -31,8 +31,9 @@ static datagram *copied(const datagram *sent) {
     return made;
 }
 
-void network_put(network *self, const datagram *sent) {
+void network_put(network *self, const datagram *sent, uint64_t due) {
     datagram *made = copied(sent);
+    made->due = due;
     made->order = self->orders++;
     make_room(self);
     size_t at = self->count++;
@@ -41,12 +42,7 @@ void network_put(network *self, const datagram *sent) {
         swap(self, at, (at - 1) / 2);
 }
 
-static void put_late(network *self, const datagram *sent, uint64_t now, uint32_t late) {
-    datagram put = { .due = now + self->conditions.delay + late * self->conditions.step, .from = sent->from, .to = sent->to };
-    put.length = sent->length;
-    memcpy(put.bytes, sent->bytes, sent->length);
-    network_put(self, &put);
-}
+static uint64_t due_of(const conditions *with, uint64_t now, uint32_t late) { return now + with->delay + late * with->step; }
 
 void network_send(network *self, const datagram *sent, uint64_t now) {
     const conditions *with = &self->conditions;
@@ -55,9 +51,9 @@ void network_send(network *self, const datagram *sent, uint64_t now) {
     bool is_twice = draws_below(&self->draws, 100) < with->twice;
     uint32_t second = draws_below(&self->draws, with->late + 1);
     if (!is_lost)
-        put_late(self, sent, now, first);
+        network_put(self, sent, due_of(with, now, first));
     if (!is_lost && is_twice)
-        put_late(self, sent, now, second);
+        network_put(self, sent, due_of(with, now, second));
 }
 
 uint64_t network_due(const network *self) { return self->count > 0 ? self->way[0]->due : UINT64_MAX; }

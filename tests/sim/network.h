@@ -33,11 +33,11 @@ typedef struct network {
     uint64_t orders;
 } network;
 
-/* Sends a datagram at a moment, of which all but `due` and `order` is set. */
+/* Sends a copy of a datagram at a moment: of it `due` and `order` aren't read. */
 void network_send(network *self, const datagram *sent, uint64_t now);
 
-/* Puts one on its way that is neither lost nor copied, and comes at its `due`. */
-void network_put(network *self, const datagram *sent);
+/* Puts a copy on its way that is neither lost nor comes twice. */
+void network_put(network *self, const datagram *sent, uint64_t due);
 
 /* When the next one comes: UINT64_MAX if none is on its way. */
 uint64_t network_due(const network *self);

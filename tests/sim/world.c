@@ -22,11 +22,11 @@ uint32_t world_clock(const world *self, uint32_t who) { return (uint32_t)((int64
 /* ---- The network. A moment is a microsecond. */
 
 void world_send(world *self, uint32_t from, uint32_t to, const uint8_t *bytes, size_t length, uint32_t milliseconds) {
-    datagram sent = { .due = self->now + 1000u * (uint64_t)milliseconds, .from = from, .to = to, .length = length };
+    datagram sent = { .from = from, .to = to, .length = length };
     if (length > sizeof sent.bytes)
         abort();
     memcpy(sent.bytes, bytes, length);
-    network_put(&self->network, &sent);
+    network_put(&self->network, &sent, self->now + 1000u * (uint64_t)milliseconds);
 }
 
 /* What a machine sends goes the way of the network: it is lost, or late, or comes twice. */
