@@ -42,8 +42,7 @@ static bool read_numbers(const char *text, const char *signs, uint32_t *numbers)
 }
 
 /* A machine and a frame, once for each machine at most. */
-static bool read_at(uint32_t frames[FAZGROND_MACHINES], const char *option, const char *example, const char *text,
-                    char fault[FAULT_TEXT]) {
+static bool read_at(uint32_t frames[FAZGROND_MACHINES], const char *option, const char *example, const char *text, char fault[FAULT_TEXT]) {
     uint32_t numbers[2];
     if (!read_numbers(text, ":", numbers))
         return say(fault, "--%s takes MACHINE:FRAME, as %s", option, example);

@@ -97,8 +97,9 @@ const char *const help_text =
     "  at most 2      how many of a hundred of them were for at most two turns\n"
     "  jobs           how many jobs were run for them\n"
     "\n"
-    "With `--trace FILE` each line of the file is an event: what was sent and what came, what a session asked of its game, its rolls, what its peer\n"
-    "told, and each settled state's digest. `tests/sim/picture` draws it as an SVG.\n"
+    "With `--trace FILE` each line of the file is an event: what was sent and what came, the words that were known,\n"
+    "what a session asked of its game, its rolls, what its peer told, and each settled state's digest.\n"
+    "`tests/sim/picture` draws it as an SVG.\n"
     "\n"
     "Exit status: 0; 1 where the answer is `refused 11` or `refused 114`, or where machines that stay don't agree, or\n"
     "not in time; 2 where the tables or the trace can't be written, or the words ask for no match.\n";

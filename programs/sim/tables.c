@@ -49,9 +49,9 @@ static const struct {
     count_of *count;
     bool is_of_held;
 } each_count[] = {
-    { "rollbacks", rollbacks, false }, { "rerun", rerun, false },     { "ggpo", ggpo, false },
-    { "deepest", deepest, false },     { "waited", waited, false },   { "guessed", guessed, false },
-    { "taken", taken, false },         { "ahead", ahead, false },     { "claims", claims, false },
+    { "rollbacks", rollbacks, false }, { "rerun", rerun, false },          { "ggpo", ggpo, false },
+    { "deepest", deepest, false },     { "waited", waited, false },        { "guessed", guessed, false },
+    { "taken", taken, false },         { "ahead", ahead, false },          { "claims", claims, false },
     { "wrong", wrong, false },         { "held_words", held_words, true }, { "held_turns", held_turns, true },
     { "held_soon", held_soon, true },  { "held_jobs", held_jobs, true },
 };
@@ -98,7 +98,8 @@ static void print_played(FILE *out, const match *of) {
 
 static void print_rolled(FILE *out, const match *of) {
     bool guesses = of->plan->jobs > 0;
-    fprintf(out, "machine rollbacks  run again   by GGPO   deepest    claims     wrong%s\n", guesses ? "      jobs     taken  run ahead" : "");
+    fprintf(out, "machine rollbacks  run again   by GGPO   deepest    claims     wrong%s\n",
+            guesses ? "      jobs     taken  run ahead" : "");
     for (uint32_t at = 0; at < of->plan->machines; at++) {
         const machine *one = &of->machines[at];
         fprintf(out, "%-7" PRIu32 "%10" PRIu64 "%11" PRIu64 "%10" PRIu64, at, rollbacks(one), rerun(one), ggpo(one));

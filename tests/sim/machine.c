@@ -210,9 +210,7 @@ void machine_post(machine *self, datagram *come) {
 }
 
 /* The codes that end a match: all others say why a datagram wasn't heard. */
-static bool is_fault(int32_t code) {
-    return code == FAZGROND_OTHER_SESSION || code == FAZGROND_LOG_FULL || code == FAZGROND_NO_MEMORY;
-}
+static bool is_fault(int32_t code) { return code == FAZGROND_OTHER_SESSION || code == FAZGROND_LOG_FULL || code == FAZGROND_NO_MEMORY; }
 
 static refusal refusal_of(int32_t code) { return code == FAZGROND_OTHER_SESSION ? FAZGROND_INVALID_REQUEST : code; }
 

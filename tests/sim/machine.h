@@ -44,7 +44,7 @@ typedef struct machine {
     uint32_t covered; /* of how many of the words that are held back the last job was */
     uint32_t spares;  /* how many times more it can go on in another epoch */
     counts counts;
-    enemy *enemy; /* null if nobody deceives it */
+    enemy *enemy;     /* null if nobody deceives it */
     datagram **inbox; /* what has come, in the order in which it was sent */
     size_t waiting, inbox_room;
 

@@ -18,11 +18,11 @@ typedef struct datagram {
 } datagram;
 
 typedef struct conditions {
-    uint64_t delay;    /* how long a datagram takes at least */
-    uint64_t step;     /* it is late by so much .. */
-    uint32_t late;     /* .. at most so many times */
-    uint32_t lost;     /* how many of a hundred are lost */
-    uint32_t twice;    /* of how many of a hundred of the others a second copy comes */
+    uint64_t delay; /* how long a datagram takes at least */
+    uint64_t step;  /* it is late by so much .. */
+    uint32_t late;  /* .. at most so many times */
+    uint32_t lost;  /* how many of a hundred are lost */
+    uint32_t twice; /* of how many of a hundred of the others a second copy comes */
 } conditions;
 
 typedef struct network {

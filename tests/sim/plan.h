@@ -23,13 +23,13 @@ typedef struct plan {
     uint32_t machines, frames, late, lost, hold, delay, threshold;
     uint64_t seed;
     const game *game;
-    uint32_t jobs;                         /* how many guesses are run in each turn; 0: none is made */
-    uint32_t held;                         /* for how many turns words of others are held back; 0: none is */
-    bool is_hostile;                       /* hostile datagrams come too .. */
-    uint64_t hostile;                      /* .. drawn from this seed */
-    uint32_t stops[FAZGROND_MACHINES];     /* the frame at which each machine goes silent, or NEVER */
-    uint32_t comes[FAZGROND_MACHINES];     /* at which it comes: anew if it has gone silent, else for the first time */
-    uint32_t splits[FAZGROND_MACHINES];    /* from which on it and others that are named so hear nothing of the rest */
+    uint32_t jobs;                      /* how many guesses are run in each turn; 0: none is made */
+    uint32_t held;                      /* for how many turns words of others are held back; 0: none is */
+    bool is_hostile;                    /* hostile datagrams come too .. */
+    uint64_t hostile;                   /* .. drawn from this seed */
+    uint32_t stops[FAZGROND_MACHINES];  /* the frame at which each machine goes silent, or NEVER */
+    uint32_t comes[FAZGROND_MACHINES];  /* at which it comes: anew if it has gone silent, else for the first time */
+    uint32_t splits[FAZGROND_MACHINES]; /* from which on it and others that are named so hear nothing of the rest */
     line_at breaks[PLAN_LINES], heals[PLAN_LINES];
     uint32_t break_count, heal_count;
     delay_at delays[PLAN_DELAYS];

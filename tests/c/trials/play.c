@@ -123,7 +123,8 @@ static void print_machines(world *all) {
         const machine *at = &all->machine[who];
         if (at->is_open)
             printf("machine %u: frame %u settled %u state %016llx log %zu, %u rollbacks, %u frames run again\n", who, at->frame,
-                   at->settled, (unsigned long long)at->history[at->settled], world_log(all, who), at->states.loads, at->states.steps - at->frame);
+                   at->settled, (unsigned long long)at->history[at->settled], world_log(all, who), at->states.loads,
+                   at->states.steps - at->frame);
     }
     if (all->wrong != NULL)
         printf("wrong: %s\n", all->wrong);
