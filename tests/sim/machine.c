@@ -123,6 +123,7 @@ static refusal open_session(machine *self, const fazgrond_settings *settings) {
     self->known.count = 0;
     self->noted = self->wait = 0;
     memset(self->gone, 0, sizeof self->gone);
+    memset(self->traced, 0, sizeof self->traced);
     return fazgrond_open(&self->session, settings);
 }
 
@@ -281,6 +282,13 @@ static void carry_out(machine *self) {
 
 /* ---- Epochs. */
 
+static void trace_words(machine *self) {
+    uint32_t word;
+    for (uint32_t place = 0; self->trace != NULL && place < self->plan->machines; place++)
+        while (fazgrond_confirmed_word(&self->session, (uint8_t)(place + 1), self->traced[place], &word) == FAZGROND_OK)
+            trace_word(self->trace, self->me, place + 1, in_match(self, self->traced[place]++), word);
+}
+
 static void push_row(rows *to, const fazgrond_row *row) {
     if (to->count == to->room) {
         to->room = 2 * to->room + 256;
@@ -336,6 +344,7 @@ static refusal begin_epoch(machine *self, const uint32_t left[FAZGROND_MACHINES]
     self->gone_players = 0;
     self->noted = 0;
     memset(self->gone, 0, sizeof self->gone);
+    memset(self->traced, 0, sizeof self->traced);
     self->brought = newcomer(self);
     if (self->brought != NEVER)
         self->came[self->brought] = in_match(self, 0);
@@ -350,6 +359,7 @@ static refusal go_on(machine *self) {
     for (uint32_t at = 0; at < FAZGROND_MACHINES; at++)
         left[at] = machine_left(self, at);
     keep_known(self);
+    trace_words(self);
     refusal why = fazgrond_peer_go_on(&self->peer, &self->session, &frames);
     if (why == FAZGROND_NOTHING)
         return FAZGROND_OK;
@@ -573,6 +583,7 @@ static refusal play_on(machine *self, uint32_t turn) {
         why = refusal_of(fazgrond_peer_poll(&self->peer, &self->session, machine_clock(turn)));
     if (why == FAZGROND_OK)
         why = play(self, &has_rolled);
+    trace_words(self);
     carry_out(self);
     read_log(self);
     if (why == FAZGROND_OK)

@@ -67,6 +67,20 @@ void trace_word(trace *self, uint32_t machine, uint32_t player, uint32_t frame, 
     end(self);
 }
 
+/* The frames of the states that were kept before the roll; and of each that would have spared it frames where it is wrong. */
+static void kept_states(trace *self, const observer *seen) {
+    const claim *said = &seen->claim;
+    uint64_t base = (uint64_t)seen->base + said->base;
+    fputs(",\"kept\":[", self->out);
+    for (uint32_t at = 0; at < said->kept_count; at++)
+        fprintf(self->out, "%s%" PRIu64, at > 0 ? "," : "", base + said->kept[at].count);
+    fputs("],\"wrong\":[", self->out);
+    for (uint32_t at = 0; at < said->differ_count; at++)
+        fprintf(self->out, "%s[%" PRIu32 ",%" PRIu64 ",%" PRIu32 "]", at > 0 ? "," : "", said->differs[at].path,
+                (uint64_t)seen->base + said->differs[at].frame, said->differs[at].player);
+    fputs("]", self->out);
+}
+
 void trace_roll(trace *self, uint32_t machine, const observer *seen) {
     if (self == NULL)
         return;
@@ -80,6 +94,7 @@ void trace_roll(trace *self, uint32_t machine, const observer *seen) {
         number(self, "frame", last->frame);
         fprintf(self->out, ",\"has_left\":%s", last->has_left ? "true" : "false");
     }
+    kept_states(self, seen);
     end(self);
 }
 
