@@ -6,8 +6,8 @@
 
 enum { EXIT_WELL = 0, EXIT_NOT_WELL = 1, EXIT_NOT_PLAYED = 2 };
 
-static int cannot_write(const char *what) {
-    fprintf(stderr, "faz-sim: %s can't be written\n", what);
+static int cannot_write(void) {
+    fputs("faz-sim: cannot write\n", stderr);
     return EXIT_NOT_PLAYED;
 }
 
@@ -24,7 +24,7 @@ static int play(const request *asked, trace *tracer) {
         tables_print(stdout, &the_match);
     match_close(&the_match);
     if (fflush(stdout) != 0)
-        return cannot_write("the tables");
+        return cannot_write();
     return is_well ? EXIT_WELL : EXIT_NOT_WELL;
 }
 
@@ -39,9 +39,9 @@ int main(int count, char **words) {
         return fflush(stdout) == 0 ? EXIT_WELL : EXIT_NOT_PLAYED;
     }
     if (asked.trace != NULL && (tracer.out = fopen(asked.trace, "w")) == NULL)
-        return cannot_write("the trace");
+        return cannot_write();
     int status = play(&asked, tracer.out != NULL ? &tracer : NULL);
     if (tracer.out != NULL && fclose(tracer.out) != 0)
-        return cannot_write("the trace");
+        return cannot_write();
     return status;
 }

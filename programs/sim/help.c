@@ -1,6 +1,6 @@
 #include "options.h"
 
-const char *const help_text =
+const char *const help_texts[HELP_TEXTS] = {
     "\n"
     "N machines play one game in this process, as over a network. They are numbered from 0, and machine M has\n"
     "player M + 1: its session has this player's words, and its peer tells them to the others by datagrams, and\n"
@@ -46,7 +46,7 @@ const char *const help_text =
     "\n"
     "A delay over 8, or a threshold of 0 or over 8 (over 15 from five machines on), is answered by `refused 11`: no\n"
     "session starts with it. A log that is full, at 16777216 entries, is answered by `refused 114`.\n"
-    "\n"
+    "\n",
     "Example:\n"
     "\n"
     "  faz-sim --frames 60 --seed 3 --lost 10 --guesses best\n"
@@ -97,9 +97,10 @@ const char *const help_text =
     "  at most 2      how many of a hundred of them were for at most two turns\n"
     "  jobs           how many jobs were run for them\n"
     "\n"
-    "With `--trace FILE` each line of the file is an event: what was sent and what came, the words that were known,\n"
-    "what a session asked of its game, its rolls, what its peer told, and each settled state's digest.\n"
-    "`tests/sim/picture` draws it as an SVG.\n"
+    "With `--trace FILE` each line of the file is an event: what was sent and what came, what a session was told and\n"
+    "asked of its game, its rolls, what its peer told, and each settled state's digest. `tests/sim/script` makes of it\n"
+    "the script of a machine's session, which `rollduel play` answers, and draws.\n"
     "\n"
     "Exit status: 0; 1 where the answer is `refused 11` or `refused 114`, or where machines that stay don't agree, or\n"
-    "not in time; 2 where the tables or the trace can't be written, or the words ask for no match.\n";
+    "not in time; 2 where the tables or the trace can't be written, or the words ask for no match.\n",
+};

@@ -120,7 +120,8 @@ void options_help(FILE *out) {
         }
         fputs("\n", out);
     }
-    fputs(help_text, out);
+    for (int at = 0; at < HELP_TEXTS; at++)
+        fputs(help_texts[at], out);
 }
 
 /* ---- What is wrong with words. All of these answer false. */

@@ -20,5 +20,6 @@ bool options_read(char **words, request *out);
 void options_help(FILE *out);
 
 /* What `--help` says after the options. */
-extern const char *const help_text;
+enum { HELP_TEXTS = 2 };
+extern const char *const help_texts[HELP_TEXTS];
 #endif

@@ -94,6 +94,7 @@ static int32_t make(guesser *self, fazgrond_session *session, states *states, ui
     why = fazgrond_graft(session, job, &added);
     self->taken += why == FAZGROND_OK;
     *came = why == FAZGROND_OK ? CAME_TAKEN : CAME_REFUSED;
+    trace_guess(self->trace, self->me, place + 1, guess, to, why == FAZGROND_OK);
     return why == FAZGROND_NO_MEMORY ? why : FAZGROND_OK;
 }
 

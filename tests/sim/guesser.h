@@ -3,6 +3,7 @@
 #define SIM_GUESSER_H
 
 #include "game.h"
+#include "trace.h"
 
 typedef struct guesser {
     uint32_t players, me; /* `me` is the place of the player whose words aren't guessed */
@@ -11,6 +12,7 @@ typedef struct guesser {
     fazgrond_habits habits[FAZGROND_PLAYERS];
     uint32_t noted[FAZGROND_PLAYERS]; /* how many words of each player were noted */
     uint64_t jobs, taken;             /* the jobs that the session gave, and those that it took in */
+    trace *trace;
 } guesser;
 
 /* Nothing was seen yet of players who choose among these words. The numbers have to be set. */

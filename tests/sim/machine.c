@@ -123,7 +123,7 @@ static refusal open_session(machine *self, const fazgrond_settings *settings) {
     self->known.count = 0;
     self->noted = self->wait = 0;
     memset(self->gone, 0, sizeof self->gone);
-    memset(self->traced, 0, sizeof self->traced);
+    trace_opened(self->trace, self->me, settings);
     return fazgrond_open(&self->session, settings);
 }
 
@@ -158,7 +158,8 @@ static void open_enemy(machine *self) {
 
 static refusal open_guesser(machine *self) {
     const plan *with = self->plan;
-    self->guesser = (guesser){ .players = with->machines, .me = self->me, .limit = with->frames, .most = with->jobs };
+    self->guesser = (guesser){
+        .players = with->machines, .me = self->me, .limit = with->frames, .most = with->jobs, .trace = self->trace };
     return guesser_open(&self->guesser, choices_of(with), CHOICES);
 }
 
@@ -263,9 +264,12 @@ static void read_log(machine *self) {
     size_t length = 0;
     fazgrond_entry entry;
     fazgrond_log_length(&self->session, &length);
-    for (; self->log_seen < length; self->log_seen++)
-        if (fazgrond_log_entry(&self->session, self->log_seen, &entry) == FAZGROND_OK && entry.kind == FAZGROND_DISCONNECT)
+    while (self->log_seen < length && fazgrond_log_entry(&self->session, self->log_seen, &entry) == FAZGROND_OK) {
+        self->log_seen++;
+        trace_entry(self->trace, self->me, &entry);
+        if (entry.kind == FAZGROND_DISCONNECT)
             self->gone_players |= 1u << (entry.player - 1);
+    }
 }
 
 /* ---- Requests. */
@@ -281,13 +285,6 @@ static void carry_out(machine *self) {
 }
 
 /* ---- Epochs. */
-
-static void trace_words(machine *self) {
-    uint32_t word;
-    for (uint32_t place = 0; self->trace != NULL && place < self->plan->machines; place++)
-        while (fazgrond_confirmed_word(&self->session, (uint8_t)(place + 1), self->traced[place], &word) == FAZGROND_OK)
-            trace_word(self->trace, self->me, place + 1, in_match(self, self->traced[place]++), word);
-}
 
 static void push_row(rows *to, const fazgrond_row *row) {
     if (to->count == to->room) {
@@ -344,7 +341,8 @@ static refusal begin_epoch(machine *self, const uint32_t left[FAZGROND_MACHINES]
     self->gone_players = 0;
     self->noted = 0;
     memset(self->gone, 0, sizeof self->gone);
-    memset(self->traced, 0, sizeof self->traced);
+    fazgrond_settings settings = settings_of(self, self->epoch.delays[self->me], self->epoch.threshold);
+    trace_opened(self->trace, self->me, &settings);
     self->brought = newcomer(self);
     if (self->brought != NEVER)
         self->came[self->brought] = in_match(self, 0);
@@ -359,7 +357,7 @@ static refusal go_on(machine *self) {
     for (uint32_t at = 0; at < FAZGROND_MACHINES; at++)
         left[at] = machine_left(self, at);
     keep_known(self);
-    trace_words(self);
+    read_log(self);
     refusal why = fazgrond_peer_go_on(&self->peer, &self->session, &frames);
     if (why == FAZGROND_NOTHING)
         return FAZGROND_OK;
@@ -583,7 +581,6 @@ static refusal play_on(machine *self, uint32_t turn) {
         why = refusal_of(fazgrond_peer_poll(&self->peer, &self->session, machine_clock(turn)));
     if (why == FAZGROND_OK)
         why = play(self, &has_rolled);
-    trace_words(self);
     carry_out(self);
     read_log(self);
     if (why == FAZGROND_OK)

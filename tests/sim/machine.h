@@ -62,7 +62,6 @@ typedef struct machine {
     uint32_t came[FAZGROND_MACHINES]; /* at which a machine came */
     uint32_t brought;                 /* who came as this epoch began, until it was seen to, or NEVER */
 
-    uint32_t traced[FAZGROND_PLAYERS]; /* how many words of each player are in the trace, of this epoch */
     guesser guesser;
     observer observer;
 } machine;

@@ -57,28 +57,40 @@ void trace_request(trace *self, uint32_t machine, const fazgrond_request *reques
     end(self);
 }
 
-void trace_word(trace *self, uint32_t machine, uint32_t player, uint32_t frame, uint32_t word) {
+void trace_opened(trace *self, uint32_t machine, const fazgrond_settings *settings) {
     if (self == NULL)
         return;
-    begin(self, "word", machine);
-    number(self, "player", player);
-    number(self, "frame", frame);
-    number(self, "word", word);
+    begin(self, "opened", machine);
+    number(self, "players", settings->players);
+    number(self, "delay", settings->delays[machine]);
+    number(self, "threshold", settings->threshold);
     end(self);
 }
 
-/* The frames of the states that were kept before the roll; and of each that would have spared it frames where it is wrong. */
-static void kept_states(trace *self, const observer *seen) {
-    const claim *said = &seen->claim;
-    uint64_t base = (uint64_t)seen->base + said->base;
-    fputs(",\"kept\":[", self->out);
-    for (uint32_t at = 0; at < said->kept_count; at++)
-        fprintf(self->out, "%s%" PRIu64, at > 0 ? "," : "", base + said->kept[at].count);
-    fputs("],\"wrong\":[", self->out);
-    for (uint32_t at = 0; at < said->differ_count; at++)
-        fprintf(self->out, "%s[%" PRIu32 ",%" PRIu64 ",%" PRIu32 "]", at > 0 ? "," : "", said->differs[at].path,
-                (uint64_t)seen->base + said->differs[at].frame, said->differs[at].player);
-    fputs("]", self->out);
+void trace_entry(trace *self, uint32_t machine, const fazgrond_entry *entry) {
+    static const char *const kinds[] = { "local", "remote", "disconnect", "sync", "advance", "graft" };
+    if (self == NULL)
+        return;
+    begin(self, kinds[entry->kind - FAZGROND_LOCAL], machine);
+    if (entry->kind <= FAZGROND_DISCONNECT)
+        number(self, "player", entry->player);
+    if (entry->kind <= FAZGROND_REMOTE) {
+        number(self, "frame", entry->frame);
+        number(self, "word", entry->word);
+    }
+    end(self);
+}
+
+void trace_guess(trace *self, uint32_t machine, uint32_t player, const fazgrond_foreseen *guess, uint32_t until, bool is_taken) {
+    if (self == NULL)
+        return;
+    begin(self, "guess", machine);
+    number(self, "player", player);
+    number(self, "until", until);
+    fputs(",\"words\":[", self->out);
+    for (uint32_t at = 0; at < guess->count; at++)
+        fprintf(self->out, "%s%" PRIu32, at > 0 ? "," : "", guess->words[at]);
+    fprintf(self->out, "],\"is_taken\":%s}\n", is_taken ? "true" : "false");
 }
 
 void trace_roll(trace *self, uint32_t machine, const observer *seen) {
@@ -94,7 +106,6 @@ void trace_roll(trace *self, uint32_t machine, const observer *seen) {
         number(self, "frame", last->frame);
         fprintf(self->out, ",\"has_left\":%s", last->has_left ? "true" : "false");
     }
-    kept_states(self, seen);
     end(self);
 }
 

@@ -106,10 +106,10 @@ Jobs are those of guesses.
 What can't be written is a fault.
 
   $ faz-sim --frames 60 > /dev/full
-  faz-sim: the tables can't be written
+  faz-sim: cannot write
   [2]
   $ faz-sim --frames 60 --guesses best > /dev/full
-  faz-sim: the tables can't be written
+  faz-sim: cannot write
   [2]
 
 Words that can't be understood.
