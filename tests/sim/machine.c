@@ -158,8 +158,7 @@ static void open_enemy(machine *self) {
 
 static refusal open_guesser(machine *self) {
     const plan *with = self->plan;
-    self->guesser = (guesser){
-        .players = with->machines, .me = self->me, .limit = with->frames, .most = with->jobs, .trace = self->trace };
+    self->guesser = (guesser){ .players = with->machines, .me = self->me, .limit = with->frames, .most = with->jobs, .trace = self->trace };
     return guesser_open(&self->guesser, choices_of(with), CHOICES);
 }
 
