@@ -67,21 +67,23 @@ const game game_digest = { "digest", sizeof(uint64_t), digest_open, digest_step,
 
 /* ---- States: the current one, that of a job, and those in slots. */
 
-enum { CURRENT, OF_JOB, FIRST_SLOT };
+enum { CURRENT, SETTLED, FIRST_SLOT };
 
 static void *state_at(const states *self, size_t place) { return self->bytes + place * self->game->size; }
 
 void *states_current(const states *self) { return state_at(self, CURRENT); }
+
+void *states_settled(const states *self) { return state_at(self, SETTLED); }
 
 void *states_saved(const states *self, uint32_t slot) { return state_at(self, FIRST_SLOT + slot); }
 
 void states_open(states *self, const game *game, uint32_t players, uint32_t slots) {
     states_close(self);
     *self = (states){ .game = game, .slots = slots, .bytes = calloc(FIRST_SLOT + (size_t)slots, game->size) };
-    if (self->bytes == NULL)
+    if (self->bytes == NULL || game->size > GAME_STATE)
         abort();
     game->open(states_current(self), players);
-    states_begin(self, states_current(self));
+    states_begin(self, states_current(self), 0);
 }
 
 void states_close(states *self) {
@@ -89,36 +91,58 @@ void states_close(states *self) {
     *self = (states){ 0 };
 }
 
-void states_begin(states *self, const void *opening) {
+void states_begin(states *self, const void *opening, uint64_t frame) {
     memset(self->is_taken, 0, sizeof self->is_taken);
     self->is_taken[0] = true;
+    self->frame = self->frames[0] = frame;
     memmove(states_current(self), opening, self->game->size);
+    memcpy(states_settled(self), states_current(self), self->game->size);
     memcpy(states_saved(self, 0), states_current(self), self->game->size);
 }
 
-static void copy(const states *self, void *to, const void *from) { memcpy(to, from, self->game->size); }
+bool states_are_free(const states *self) {
+    for (uint32_t slot = 0; slot < self->slots; slot++)
+        if (self->is_taken[slot])
+            return false;
+    return true;
+}
 
-static bool is_proper(const states *self, const fazgrond_request *request) {
-    bool is_step = request->kind == FAZGROND_STEP || request->kind == FAZGROND_JOB_STEP;
-    bool is_save = request->kind == FAZGROND_SAVE || request->kind == FAZGROND_JOB_SAVE;
-    return is_step || (request->slot < self->slots && self->is_taken[request->slot] != is_save);
+static void load(states *self, void *state, uint64_t *frame, uint32_t slot) {
+    memcpy(state, states_saved(self, slot), self->game->size);
+    *frame = self->frames[slot];
+}
+
+static void save(states *self, const void *state, uint64_t frame, uint32_t slot) {
+    memcpy(states_saved(self, slot), state, self->game->size);
+    self->frames[slot] = frame;
+}
+
+static bool must(states *self, bool is_so, const char *what) {
+    if (!is_so && self->wrong == NULL)
+        self->wrong = what;
+    return is_so;
+}
+
+static bool is_kind(const fazgrond_request *request, uint32_t first, uint32_t last) {
+    return request->kind >= first && request->kind <= last;
+}
+
+/* A slot that is saved to is free before, and one that is loaded or freed isn't. */
+static bool is_proper(const states *self, const fazgrond_request *request, bool saves) {
+    return request->slot < self->slots && self->is_taken[request->slot] != saves;
 }
 
 void states_carry_out(states *self, const fazgrond_request *request) {
     uint32_t slot = request->slot;
-    if (!is_proper(self, request)) {
-        self->wrong = "a slot that is saved to is taken, or one that is loaded or freed isn't";
+    bool is_step = request->kind == FAZGROND_STEP;
+    if (!must(self, is_kind(request, FAZGROND_LOAD, FAZGROND_FREE), "a request's kind")
+        || !must(self, is_step || is_proper(self, request, request->kind == FAZGROND_SAVE), "a request's slot"))
         return;
-    }
     switch (request->kind) {
-    case FAZGROND_LOAD: copy(self, states_current(self), states_saved(self, slot)), self->loads++; break;
-    case FAZGROND_SAVE: copy(self, states_saved(self, slot), states_current(self)), self->is_taken[slot] = true; break;
-    case FAZGROND_STEP: self->game->step(states_current(self), &request->row), self->steps++; break;
-    case FAZGROND_FREE: self->is_taken[slot] = false; break;
-    case FAZGROND_JOB_LOAD: copy(self, state_at(self, OF_JOB), states_saved(self, slot)); break;
-    case FAZGROND_JOB_SAVE: copy(self, states_saved(self, slot), state_at(self, OF_JOB)), self->is_taken[slot] = true; break;
-    case FAZGROND_JOB_STEP: self->game->step(state_at(self, OF_JOB), &request->row), self->job_steps++; break;
-    default: self->wrong = "a kind of request";
+    case FAZGROND_LOAD: load(self, states_current(self), &self->frame, slot), self->loads++; break;
+    case FAZGROND_SAVE: save(self, states_current(self), self->frame, slot), self->is_taken[slot] = true; break;
+    case FAZGROND_STEP: self->game->step(states_current(self), &request->row), self->frame++, self->steps++; break;
+    default: self->is_taken[slot] = false; break;
     }
 }
 
@@ -128,4 +152,39 @@ void states_carry_out_all(states *self, fazgrond_session *session) {
     while ((count = fazgrond_take_requests(session, requests, REQUESTS)) > 0)
         for (size_t at = 0; at < count; at++)
             states_carry_out(self, &requests[at]);
+}
+
+/* ---- Jobs. */
+
+void job_take(job *self, states *states, fazgrond_session *session) {
+    fazgrond_request *next = self->requests;
+    self->count = self->done = 0;
+    while (self->count < JOB_REQUESTS && fazgrond_take_requests(session, next, 1) > 0) {
+        bool saves = next->kind == FAZGROND_JOB_SAVE;
+        if (!must(states, is_kind(next, FAZGROND_JOB_LOAD, FAZGROND_JOB_STEP), "a kind of request of a job")
+            || !must(states, !saves || is_proper(states, next, true), "a job saves to a slot that is taken"))
+            return;
+        if (saves)
+            states->is_taken[next->slot] = true;
+        next = &self->requests[++self->count];
+    }
+}
+
+static void run_one(job *self, states *states) {
+    const fazgrond_request *request = &self->requests[self->done++];
+    bool is_step = request->kind == FAZGROND_JOB_STEP;
+    if (!must(states, is_step || is_proper(states, request, false), "a job's slot isn't its own"))
+        return;
+    if (request->kind == FAZGROND_JOB_LOAD)
+        load(states, self->state, &self->frame, request->slot);
+    else if (request->kind == FAZGROND_JOB_SAVE)
+        save(states, self->state, self->frame, request->slot);
+    else
+        states->game->step(self->state, &request->row), self->frame++, states->job_steps++;
+}
+
+bool job_run(job *self, states *states, size_t most) {
+    for (; most > 0 && self->done < self->count; most--)
+        run_one(self, states);
+    return self->done == self->count;
 }

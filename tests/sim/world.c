@@ -1,57 +1,77 @@
 #include "world.h"
 
+#include "claim.h"
+
 #include <stdlib.h>
 #include <string.h>
 
-enum { MOST_AT_ONCE = 256, BYES = 3, REQUESTS = 16, WORLD_STREAM = 0, NETWORK_STREAM = 32 };
+enum { BYES = 3, WORLD_STREAM = 0, NETWORK_STREAM = 32, MOST_AT_ONCE = 256, EVEN_TURN = 16 };
 
-const setup plain = {
-    .machines = 2, .rate = 60, .delay = 20, .silent_after = FAZGROND_SILENT_AFTER, .notify_after = FAZGROND_NOTIFY_AFTER, .seed = 1
-};
+const setup plain = { .machines = 2,
+                      .rate = 60,
+                      .delay = 20,
+                      .silent_after = FAZGROND_SILENT_AFTER,
+                      .notify_after = FAZGROND_NOTIFY_AFTER,
+                      .most_heard = MOST_AT_ONCE,
+                      .seed = 1 };
+
+const setup even = { .machines = 2,
+                     .turn = EVEN_TURN * MILLISECOND,
+                     .delay = 2,
+                     .silent_after = 1000,
+                     .notify_after = FAZGROND_NOTIFY_AFTER,
+                     .comers = 0x123456789abcdef,
+                     .lasts = true,
+                     .seed = 1 };
 
 static world the_world;
 
-/* ---- Numbers by chance. */
+static void must(world *self, bool is_so, const char *what) {
+    if (!is_so && self->wrong == NULL)
+        self->wrong = what;
+}
+
+/* ---- Numbers by chance, and time. */
 
 uint32_t world_draw(world *self, uint32_t below) { return draws_below(&self->random, below); }
 
-uint32_t world_millis(const world *self) { return (uint32_t)(self->now / 1000); }
+uint32_t world_millis(const world *self) { return (uint32_t)(self->now / MILLISECOND); }
 
-uint32_t world_clock(const world *self, uint32_t who) { return (uint32_t)((int64_t)(self->now / 1000) + self->machine[who].clock_ahead); }
+uint32_t world_clock(const world *self, uint32_t who) {
+    return (uint32_t)((int64_t)(self->now / MILLISECOND) + self->machine[who].clock_ahead);
+}
 
-/* ---- The network. A moment is a microsecond. */
+/* ---- The network. */
 
 void world_send(world *self, uint32_t from, uint32_t to, const uint8_t *bytes, size_t length, uint32_t milliseconds) {
     datagram sent = { .from = from, .to = to, .length = length };
     if (length > sizeof sent.bytes)
         abort();
     memcpy(sent.bytes, bytes, length);
-    network_put(&self->network, &sent, self->now + 1000u * (uint64_t)milliseconds);
+    network_put(&self->network, &sent, self->now + MILLISECOND * (uint64_t)milliseconds);
 }
 
-/* What a machine sends goes the way of the network: it is lost, or late, or comes twice. */
-static void post(world *self, datagram *sent) {
-    if (self->watcher == NULL || self->watcher(self, sent))
+void world_post(world *self, datagram *sent) {
+    if (!self->is_cut[sent->from][sent->to] && (self->watcher == NULL || self->watcher(self, sent)))
         network_send(&self->network, sent, self->now);
 }
 
+void world_cut(world *self, uint32_t one, uint32_t other, bool is_cut) { self->is_cut[one][other] = self->is_cut[other][one] = is_cut; }
+
 static void arrive(world *self, datagram *come) {
     machine *to = &self->machine[come->to];
-    bool is_lost = come->from < MACHINES && (self->machine[come->from].is_mute || self->is_cut[come->from][come->to]);
-    if (!is_lost && to->is_open && !to->is_dead && !to->is_deaf && to->waiting < sizeof to->inbox / sizeof *to->inbox)
-        to->inbox[to->waiting++] = come;
+    bool is_lost = come->from < MACHINES && self->machine[come->from].is_mute;
+    if (!is_lost && to->is_open && !to->is_dead && !to->is_deaf)
+        machine_post(to, come);
     else
         free(come);
 }
 
-/* ---- A game. */
+/* ---- The game. */
 
 uint32_t world_slots(const world *self) { return self->setup.slots != 0 ? self->setup.slots : SLOTS; }
 
-static void is_wrong(world *self, const char *what) {
-    if (self->wrong == NULL)
-        self->wrong = what;
-}
+static const game *game_of(const world *self) { return self->setup.game != NULL ? self->setup.game : &game_digest; }
 
 uint64_t world_state(const machine *of) { return *(const uint64_t *)states_current(&of->states); }
 
@@ -60,119 +80,142 @@ uint64_t world_state_after(uint64_t state, const fazgrond_row *row) {
     return state;
 }
 
-/* Keeps the state after one settled row more; the first one is the opening. */
-static void keep_history(machine *at, uint32_t frame, uint64_t state) {
-    if (frame >= at->room) {
-        at->room = 2 * at->room + 1024;
-        at->history = realloc(at->history, at->room * sizeof *at->history);
-        if (at->history == NULL)
-            abort();
-    }
-    at->history[frame] = state;
-    at->settled = frame;
+/* A word that changes now and then: another one at each player, the same whenever the frame is played. */
+static uint32_t word_of(const world *self, uint32_t player, uint64_t frame) {
+    uint64_t mixed = (self->setup.seed + 7) * 0x9e3779b97f4a7c15u + frame / (3 + player) * 0xff51afd7ed558ccdu + player;
+    mixed = (mixed ^ mixed >> 29) * 0xbf58476d1ce4e5b9u;
+    return self->setup.is_idle ? 0 : (uint32_t)(mixed >> 40) & (self->setup.is_button ? 1 : 0xffff);
 }
 
-/* The states after the rows that were settled, by these rows alone. The library's settled state has to be the last of them. */
-static void look_at_settled(world *self, machine *at) {
-    uint32_t frame, slot;
-    fazgrond_row row;
-    if (fazgrond_settled_slot(&at->session, &frame, &slot) != FAZGROND_OK || frame < at->settled || slot >= world_slots(self)) {
-        is_wrong(self, "the settled frame fell");
-        return;
-    }
-    while (at->settled < frame) {
-        if (fazgrond_settled_row(&at->session, at->settled, &row) != FAZGROND_OK)
-            is_wrong(self, "a settled row is missing");
-        keep_history(at, at->settled + 1, world_state_after(at->history[at->settled], &row));
-    }
-    if (*(uint64_t *)states_saved(&at->states, slot) != at->history[frame] || !at->states.is_taken[slot])
-        is_wrong(self, "the settled state isn't that of the settled rows");
-    if (fazgrond_peer_note_settled(&at->peer, &at->session, at->history[frame]) != FAZGROND_OK)
-        is_wrong(self, "a settled state isn't noted");
+uint32_t world_drawn_word(machine *self, uint32_t player, uint64_t frame) { return word_of(self->world, player, frame); }
+
+static const program drawing = { .word = world_drawn_word };
+
+/* ---- The match, and its machines. */
+
+static uint32_t words_of(const world *self) { return self->setup.words != 0 ? self->setup.words : 1; }
+
+uint32_t world_players(const world *self) {
+    return self->setup.players != 0 ? self->setup.players : self->setup.machines * words_of(self);
 }
 
-void world_carry_out(world *self, uint32_t who) {
-    machine *at = &self->machine[who];
-    fazgrond_request requests[REQUESTS];
-    size_t count;
-    while ((count = fazgrond_take_requests(&at->session, requests, REQUESTS)) > 0)
-        for (size_t one = 0; one < count; one++) {
-            states_carry_out(&at->states, &requests[one]);
-            if (requests[one].kind >= FAZGROND_JOB_LOAD)
-                is_wrong(self, "a kind of request");
-        }
-    if (at->states.wrong != NULL)
-        is_wrong(self, at->states.wrong);
+uint32_t world_owner(const world *self, uint32_t player) {
+    if (self->setup.has_owners)
+        return self->setup.owners[player];
+    return player < world_players(self) ? player / words_of(self) % self->setup.machines : FAZGROND_NO_PLAYER;
 }
 
-/* ---- A machine. */
-
-static uint32_t words_of(const setup *with) { return with->words != 0 ? with->words : 1; }
-
-static uint32_t players_of(const setup *with) { return with->players != 0 ? with->players : with->machines * words_of(with); }
-
-static uint32_t owner_of(const setup *with, uint32_t player) {
-    return player < players_of(with) ? player / words_of(with) % with->machines : FAZGROND_NO_PLAYER;
-}
-
-fazgrond_settings world_settings(const world *self, uint32_t who) {
+fazgrond_epoch world_first_epoch(const world *self) {
     const setup *with = &self->setup;
-    fazgrond_settings made = fazgrond_settings_for(players_of(with));
-    made.threshold = 8;
+    fazgrond_epoch made = { .size = sizeof made, .words = words_of(self), .machines = with->machines };
+    made.threshold = with->threshold != 0 ? with->threshold : 8;
+    for (uint32_t player = 0; player < FAZGROND_PLAYERS; player++) {
+        made.owners[player] = world_owner(self, player);
+        bool is_owned = made.owners[player] < MACHINES;
+        made.delays[player] = with->has_owners ? with->delays[player] : is_owned ? with->input_delay : 0;
+    }
+    return made;
+}
+
+fazgrond_settings world_settings_in(const world *self, uint32_t seat, const fazgrond_epoch *epoch) {
+    fazgrond_settings made = fazgrond_settings_for(world_players(self));
+    made.threshold = epoch->threshold;
+    if (self->setup.limit != 0)
+        made.limit = self->setup.limit;
     for (uint32_t player = 0; player < FAZGROND_PLAYERS; player++)
-        if (owner_of(with, player) == who) {
+        if (epoch->owners[player] == seat) {
             made.local |= 1u << player;
-            made.delays[player] = with->input_delay;
+            made.delays[player] = epoch->delays[player];
         }
     return made;
 }
 
-static fazgrond_match match_of(const world *self, uint32_t who) {
+fazgrond_settings world_settings(const world *self, uint32_t who) {
+    fazgrond_epoch epoch = world_first_epoch(self);
+    return world_settings_in(self, who, &epoch);
+}
+
+fazgrond_match world_match(const world *self, uint32_t who, uint32_t seat) {
     const setup *with = &self->setup;
-    fazgrond_match made = fazgrond_match_for(with->machines, who);
+    fazgrond_match made = fazgrond_match_for(with->machines, seat);
     made.draw = self->machine[who].draw;
     made.digest = 0x6d617463;
+    made.comers = with->comers;
     for (uint32_t player = 0; player < FAZGROND_PLAYERS; player++)
-        made.owners[player] = owner_of(with, player);
+        made.owners[player] = world_owner(self, player);
     for (uint32_t other = 0; other < MACHINES; other++)
         made.numbers[other] = self->numbers[who][other];
     made.silent_after = who == 0 && with->silent_first != 0 ? with->silent_first : with->silent_after;
     made.notify_after = with->notify_after;
-    made.stalled_after = with->last_waits && who + 1 == with->machines ? 0 : with->stalled_after;
+    made.stalled_after = with->waits == who + 1 ? 0 : with->stalled_after;
     made.held_turns = with->held_turns;
-    made.words = words_of(with);
+    made.words = words_of(self);
     return made;
 }
 
-static void empty(machine *at) {
-    while (at->waiting > 0)
-        free(at->inbox[--at->waiting]);
+static void open_session(world *self, machine *at, const fazgrond_settings *settings) {
+    must(self, fazgrond_open(&at->session, settings) == FAZGROND_OK, "a session doesn't open");
+    if (self->setup.slots != 0)
+        must(self, fazgrond_limit_slots(&at->session, self->setup.slots) == FAZGROND_OK, "slots can't be limited");
+    states_open(&at->states, game_of(self), world_players(self), world_slots(self));
 }
 
 void world_open_session(world *self, uint32_t who) {
+    fazgrond_epoch epoch = world_first_epoch(self);
+    fazgrond_settings settings = world_settings_in(self, who, &epoch);
+    open_session(self, &self->machine[who], &settings);
+    machine_begin_in(&self->machine[who], &epoch);
+}
+
+/* How a match opens that goes on in epochs is what its peer says, but for what it doesn't read. */
+static int32_t open_lasting(machine *at, const fazgrond_match *match, const fazgrond_epoch *epoch) {
+    fazgrond_epoch said = { 0 };
+    int32_t code = fazgrond_peer_open_lasting(&at->peer, &at->session, match, epoch);
+    fazgrond_peer_epoch(&at->peer, &said);
+    said.machines = epoch->machines;
+    must(at->world, memcmp(&said, epoch, sizeof said) == 0, "an epoch is opened as another");
+    return code;
+}
+
+static int32_t open_peer(machine *at, const fazgrond_match *match, const fazgrond_epoch *epoch) {
+    if (at->world->setup.lasts)
+        return open_lasting(at, match, epoch);
+    return at->world->setup.carries ? fazgrond_peer_open_carrying(&at->peer, &at->session, match)
+                                    : fazgrond_peer_open(&at->peer, &at->session, match);
+}
+
+/* A program is begun anew: nothing is left of what it was, but what is wrong with it, and its clock. */
+static void begin_anew(machine *at, uint32_t seat) {
+    machine_empty(at);
+    at->seat = seat;
+    for (uint32_t other = 0; other < MACHINES; other++)
+        at->places[other] = other;
+    at->frame = at->wait = 0;
+    at->is_running = at->is_short = at->is_closing = at->is_fewer = at->is_dead = at->stays_behind = false;
+}
+
+void world_open_in(world *self, uint32_t who, uint32_t seat, const fazgrond_epoch *epoch, const void *state) {
     machine *at = &self->machine[who];
-    fazgrond_settings settings = world_settings(self, who);
-    if (fazgrond_open(&at->session, &settings) != FAZGROND_OK || fazgrond_limit_slots(&at->session, world_slots(self)) != FAZGROND_OK)
-        is_wrong(self, "a session doesn't open");
-    states_open(&at->states, &game_digest, players_of(&self->setup), world_slots(self));
+    begin_anew(at, seat);
+    at->draw = draws_wide(&self->random);
+    fazgrond_match match = world_match(self, who, seat);
+    fazgrond_settings settings = world_settings_in(self, seat, epoch);
+    if (at->program->opens != NULL)
+        at->program->opens(at, &settings, &match);
+    at->draw = match.draw;
+    open_session(self, at, &settings);
+    if (state != NULL)
+        states_begin(&at->states, state, epoch->base);
+    machine_begin_in(at, epoch);
+    must(self, open_peer(at, &match, epoch) == FAZGROND_OK, "a machine doesn't open");
+    at->opening++;
+    at->is_open = true;
+    at->next_turn = self->now + (self->setup.turn != 0 ? 0 : MICROSECOND * (uint64_t)world_draw(self, 1000000 / self->setup.rate));
 }
 
 void world_open(world *self, uint32_t who) {
-    machine *at = &self->machine[who];
-    at->draw = draws_wide(&self->random);
-    fazgrond_match match = match_of(self, who);
-    empty(at);
-    world_open_session(self, who);
-    if ((self->setup.carries ? fazgrond_peer_open_carrying(&at->peer, &at->session, &match)
-                             : fazgrond_peer_open(&at->peer, &at->session, &match))
-        != FAZGROND_OK)
-        is_wrong(self, "a machine doesn't open");
-    at->frame = at->wait = 0;
-    keep_history(at, 0, 0);
-    at->opening++;
-    at->is_open = true;
-    at->is_dead = false;
-    at->next_turn = self->now + world_draw(self, 1000000 / self->setup.rate);
+    fazgrond_epoch epoch = world_first_epoch(self);
+    world_open_in(self, who, who, &epoch, NULL);
 }
 
 void world_open_all(world *self) {
@@ -180,95 +223,31 @@ void world_open_all(world *self) {
         world_open(self, who);
 }
 
-/* What it carries for others, or has carried. */
-static void send_more(world *self, uint32_t who) {
-    datagram sent = { .from = who };
-    uint8_t to;
-    while (fazgrond_peer_send_more(&self->machine[who].peer, &to, sent.bytes, FAZGROND_DATAGRAM, &sent.length) == FAZGROND_OK) {
-        sent.to = to;
-        post(self, &sent);
-    }
+void world_say_bye(world *self, uint32_t who, uint32_t times) {
+    machine *at = &self->machine[who];
+    datagram said = { .from = who };
+    for (uint8_t seat = 0; seat < MACHINES; seat++)
+        if (fazgrond_peer_bye(&at->peer, seat, FAZGROND_BYE_LEAVES, said.bytes, FAZGROND_DATAGRAM, &said.length) == FAZGROND_OK) {
+            said.to = at->places[seat];
+            for (uint32_t time = 0; time < times; time++)
+                world_post(self, &said);
+        }
+    machine_send_more(at);
 }
 
 void world_leave(world *self, uint32_t who) {
-    machine *at = &self->machine[who];
-    datagram said = { .from = who };
-    for (said.to = 0; said.to < self->setup.machines; said.to++)
-        if (fazgrond_peer_bye(&at->peer, (uint8_t)said.to, FAZGROND_BYE_LEAVES, said.bytes, FAZGROND_DATAGRAM, &said.length) == FAZGROND_OK)
-            for (int times = 0; times < BYES; times++)
-                post(self, &said);
-    send_more(self, who);
-    fazgrond_peer_close(&at->peer);
-    fazgrond_close(&at->session);
-    at->is_open = false;
-    empty(at);
+    world_say_bye(self, who, BYES);
+    machine_close(&self->machine[who]);
 }
 
-/* A word that changes now and then: another one at each player, the same whenever the frame is played. */
-static uint32_t word_of(const world *self, uint32_t player, uint32_t frame) {
-    uint64_t mixed = (self->setup.seed + 7) * 0x9e3779b97f4a7c15u + frame / (3 + player) * 0xff51afd7ed558ccdu + player;
-    mixed = (mixed ^ mixed >> 29) * 0xbf58476d1ce4e5b9u;
-    return self->setup.is_idle ? 0 : (uint32_t)(mixed >> 40) & (self->setup.is_button ? 1 : 0xffff);
-}
+/* ---- What is told. */
 
-static void hear(world *self, uint32_t who) {
-    machine *at = &self->machine[who];
-    size_t taken = at->waiting < MOST_AT_ONCE ? at->waiting : MOST_AT_ONCE;
-    for (size_t one = 0; one < taken; one++) {
-        int32_t code = fazgrond_peer_receive(&at->peer, &at->session, at->inbox[one]->bytes, at->inbox[one]->length,
-                                             world_clock(self, who));
-        at->answers[code >= 0 && code < CODES ? code : CODES - 1]++;
-        free(at->inbox[one]);
-    }
-    at->waiting -= taken;
-    memmove(at->inbox, at->inbox + taken, at->waiting * sizeof *at->inbox);
-}
-
-/* False if it gives none in this turn, or is too far ahead. */
-static bool give_words(world *self, uint32_t who) {
-    machine *at = &self->machine[who];
-    int32_t given = FAZGROND_LOCAL_INPUT_MISSING;
-    if (at->wait > 0) {
-        at->wait--;
-        return false;
-    }
-    if (at->is_stalled || (at->word_every != 0 && at->turns % at->word_every != 0)
-        || (self->setup.last_frame != 0 && at->frame >= self->setup.last_frame))
-        return false;
-    for (uint32_t player = 0; player < players_of(&self->setup); player++)
-        if (owner_of(&self->setup, player) == who) {
-            given = fazgrond_add_local_input(&at->session, (uint8_t)(player + 1), word_of(self, player, at->frame));
-            if (given == FAZGROND_INPUT_TWICE && at->is_short) /* the roll that it was given for is made again */
-                given = FAZGROND_OK;
-            if (given != FAZGROND_OK)
-                break;
-        }
-    if (given != FAZGROND_OK && given != FAZGROND_PREDICTION_THRESHOLD)
-        is_wrong(self, "a word is refused");
-    return given == FAZGROND_OK;
-}
-
-/* A frame, or at least what came for the frames before. */
-static int32_t play(world *self, uint32_t who) {
-    machine *at = &self->machine[who];
-    fazgrond_reached reached;
-    fazgrond_row row;
-    uint32_t has_news = 77;
-    if (give_words(self, who))
-        return fazgrond_advance_frame(&at->session, &reached);
-    fazgrond_has_news(&at->session, &has_news);
-    return has_news != 0 ? fazgrond_synchronize_input(&at->session, &row) : FAZGROND_OK;
-}
-
-static void tell(world *self, uint32_t who, const fazgrond_event *event) {
-    machine *at = &self->machine[who];
-    if (event->code == FAZGROND_TIME_SYNC)
-        at->wait = event->frames_ahead;
+void world_tell(world *self, uint32_t who, const fazgrond_event *event) {
     if (self->events < MOST_TOLD)
-        self->told[self->events++] = (told){ world_millis(self), who, at->opening, *event };
+        self->told[self->events++] = (told){ world_millis(self), who, self->machine[who].opening, *event };
     if (self->out == NULL || event->code == FAZGROND_TIME_SYNC)
         return;
-    fprintf(self->out, "%9.3f  machine %u: %s", (double)self->now / 1e6, who, world_name(event->code));
+    fprintf(self->out, "%9.3f  machine %u: %s", (double)self->now / SECOND, who, world_name(event->code));
     if (event->code == FAZGROND_DISCONNECTED)
         fprintf(self->out, " player %u", event->player);
     else if (event->code != FAZGROND_RUNNING && event->code != FAZGROND_DROPPED && event->code < FAZGROND_CUT_OFF)
@@ -286,57 +265,13 @@ static void tell(world *self, uint32_t who, const fazgrond_event *event) {
     fputs("\n", self->out);
 }
 
-static void send_all(world *self, uint32_t who) {
-    machine *at = &self->machine[who];
-    datagram sent = { .from = who };
-    for (sent.to = 0; sent.to < self->setup.machines; sent.to++)
-        if (fazgrond_peer_send(&at->peer, &at->session, (uint8_t)sent.to, world_clock(self, who), sent.bytes, FAZGROND_DATAGRAM,
-                               &sent.length)
-            == FAZGROND_OK)
-            post(self, &sent);
-    send_more(self, who);
-}
-
-/* The session is given the words that have waited, if any are held back. */
-static void hand_over(world *self, uint32_t who) {
-    machine *at = &self->machine[who];
-    uint32_t is_pressed = 0, handed;
-    if (self->setup.held_turns == 0)
-        return;
-    fazgrond_peer_is_pressed(&at->peer, &at->session, &is_pressed);
-    if (is_pressed != 0)
-        fazgrond_peer_hand_over(&at->peer, &at->session, FAZGROND_HELD_WORDS);
-    if (fazgrond_peer_hand_over_due(&at->peer, &at->session, &handed) != FAZGROND_OK)
-        is_wrong(self, "words aren't handed over");
-}
-
-/* A turn of the main loop, as docs/C.md has it. */
-static void turn(world *self, uint32_t who) {
-    machine *at = &self->machine[who];
-    fazgrond_event event;
-    uint32_t is_running = 77;
-    hear(self, who);
-    if (fazgrond_peer_poll(&at->peer, &at->session, world_clock(self, who)) != FAZGROND_OK)
-        is_wrong(self, "a poll is refused");
-    hand_over(self, who);
-    fazgrond_peer_is_running(&at->peer, &is_running);
-    fazgrond_frame(&at->session, &at->frame);
-    int32_t code = is_running != 0 ? play(self, who) : FAZGROND_OK;
-    at->is_short = code == FAZGROND_NO_MEMORY && self->setup.slots != 0;
-    if (code != FAZGROND_OK && !at->is_short)
-        is_wrong(self, "a turn is refused");
-    world_carry_out(self, who);
-    look_at_settled(self, at);
-    fazgrond_frame(&at->session, &at->frame);
-    if (self->after_turn != NULL)
-        self->after_turn(self, who);
-    while (fazgrond_peer_event(&at->peer, &event) == FAZGROND_OK)
-        tell(self, who, &event);
-    send_all(self, who);
-    at->turns++;
-}
-
 /* ---- Time. */
+
+static conditions conditions_of(const setup *with) {
+    if (with->turn != 0)
+        return (conditions){ with->delay * (uint64_t)with->turn, with->turn, with->jitter, with->loss, with->copies };
+    return (conditions){ with->delay * (uint64_t)MILLISECOND, MILLISECOND, with->jitter, with->loss, with->copies };
+}
 
 world *world_begin(const setup *with) {
     world *self = &the_world;
@@ -344,24 +279,28 @@ world *world_begin(const setup *with) {
     self->setup = *with;
     self->random = draws_of(with->seed, WORLD_STREAM);
     self->network.draws = draws_of(with->seed, NETWORK_STREAM);
-    self->network.conditions = (conditions){ 1000u * (uint64_t)with->delay, 1000, with->jitter, with->loss, with->copies };
+    self->network.conditions = conditions_of(with);
     for (uint32_t one = 0; one < MACHINES; one++)
         for (uint32_t other = 0; other <= one; other++)
             self->numbers[one][other] = self->numbers[other][one] = with->has_pair_numbers ? draws_wide(&self->random) : 0x5eed5eed5eed5eed;
-    self->now = 1000000;
-    for (uint32_t who = 0; who < MACHINES; who++)
+    self->now = SECOND;
+    for (uint32_t who = 0; who < MACHINES; who++) {
+        self->machine[who].world = self;
+        self->machine[who].me = who;
+        self->machine[who].program = with->program != NULL ? with->program : &drawing;
         self->machine[who].clock_ahead = world_draw(self, 1 << 30);
+    }
     return self;
 }
 
 void world_end(world *self) {
     for (uint32_t who = 0; who < MACHINES; who++) {
         machine *at = &self->machine[who];
-        fazgrond_peer_close(&at->peer);
-        fazgrond_close(&at->session);
-        empty(at);
+        machine_close(at);
         states_close(&at->states);
-        free(at->history);
+        free(at->inbox);
+        free(at->parts);
+        free(at->records);
     }
     network_close(&self->network);
     memset(self, 0, sizeof *self);
@@ -370,7 +309,7 @@ void world_end(world *self) {
 /* The machine whose turn is next, or MACHINES if none plays. */
 static uint32_t next_machine(const world *self) {
     uint32_t found = MACHINES;
-    for (uint32_t who = 0; who < self->setup.machines; who++) {
+    for (uint32_t who = 0; who < MACHINES; who++) {
         const machine *at = &self->machine[who];
         if (at->is_open && !at->is_dead && (found == MACHINES || at->next_turn < self->machine[found].next_turn))
             found = who;
@@ -378,10 +317,10 @@ static uint32_t next_machine(const world *self) {
     return found;
 }
 
-/* A turn is as long as it should be, but for a twentieth: no program's turns are all alike. */
+/* A turn is as long as it should be, but for a twentieth, unless all are alike: no program's turns are. */
 static uint64_t turn_length(world *self) {
-    uint32_t whole = 1000000 / self->setup.rate;
-    return whole - whole / 20 + world_draw(self, whole / 10 + 1);
+    uint32_t whole = self->setup.turn != 0 ? self->setup.turn : 1000000 / self->setup.rate;
+    return self->setup.turn != 0 ? whole : MICROSECOND * (uint64_t)(whole - whole / 20 + world_draw(self, whole / 10 + 1));
 }
 
 /* The next thing that happens before some time, if there is one. */
@@ -397,20 +336,27 @@ static bool step(world *self, uint64_t until) {
         arrive(self, network_take(&self->network));
     } else {
         self->machine[who].next_turn += turn_length(self);
-        turn(self, who);
+        if (!self->machine[who].hangs)
+            machine_turn(&self->machine[who]);
     }
     return true;
 }
 
 void world_stand_still(world *self, uint32_t who, uint32_t milliseconds) {
-    self->machine[who].next_turn = self->now + 1000u * (uint64_t)milliseconds;
+    self->machine[who].next_turn = self->now + MILLISECOND * (uint64_t)milliseconds;
 }
 
-void world_run(world *self, uint32_t milliseconds) {
-    uint64_t until = self->now + 1000u * (uint64_t)milliseconds;
-    while (step(self, until)) {
+static void run_until(world *self, uint64_t moment) {
+    while (step(self, moment)) {
     }
-    self->now = until;
+    self->now = moment;
+}
+
+void world_run(world *self, uint32_t milliseconds) { run_until(self, self->now + MILLISECOND * (uint64_t)milliseconds); }
+
+void world_run_turns(world *self, uint32_t turns) {
+    for (; turns > 0; turns--, self->turn++)
+        run_until(self, self->now + self->setup.turn);
 }
 
 static bool have_settled(const world *self, uint32_t frames) {
@@ -454,21 +400,30 @@ uint32_t world_gone_in(const world *self, uint32_t who, uint32_t code, uint32_t 
     return first_told(self, who, code, of).event.disconnect_in;
 }
 
-bool world_agree(const world *self, uint32_t one, uint32_t other, uint32_t frames) {
+static uint64_t later(uint64_t one, uint64_t other) { return one > other ? one : other; }
+
+static uint64_t sooner(uint64_t one, uint64_t other) { return one < other ? one : other; }
+
+bool world_agree(const world *self, uint32_t one, uint32_t other, uint64_t frames) {
     const machine *first = &self->machine[one], *second = &self->machine[other];
-    uint32_t both = first->settled < second->settled ? first->settled : second->settled;
-    return both >= frames && memcmp(first->history, second->history, (both + 1) * sizeof *first->history) == 0;
+    uint64_t from = later(first->from, second->from), until = sooner(first->settled, second->settled);
+    bool is_so = until >= frames;
+    for (uint64_t frame = from; frame < until && is_so; frame++)
+        is_so = row_is_same(&machine_record(first, frame)->row, &machine_record(second, frame)->row)
+            && machine_digest(first, frame + 1) == machine_digest(second, frame + 1);
+    return is_so;
 }
 
-bool world_is_serial(const world *self, uint32_t who, uint32_t frames) {
+bool world_is_serial(world *self, uint32_t who, uint32_t frames) {
     uint64_t state = 0;
+    machine *at = &self->machine[who];
     for (uint32_t frame = 0; frame < frames; frame++) {
-        fazgrond_row row = { .count = players_of(&self->setup) };
+        fazgrond_row row = { .count = world_players(self) };
         for (uint32_t player = 0; player < row.count; player++)
-            row.words[player] = word_of(self, player, frame);
+            row.words[player] = at->program->word(&self->machine[world_owner(self, player)], player, frame);
         state = world_state_after(state, &row);
     }
-    return self->machine[who].settled >= frames && self->machine[who].history[frames] == state;
+    return at->settled >= frames && machine_digest(at, frames) == state;
 }
 
 size_t world_log(world *self, uint32_t who) {

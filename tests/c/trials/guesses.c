@@ -5,7 +5,7 @@
 #include <stdlib.h>
 #include <string.h>
 
-enum { JOBS = 64, JOB_REQUESTS = 17, AHEAD = 8, TEXT = 1 << 16 };
+enum { JOBS = 64, AT_ONCE = 17, AHEAD = 8, TEXT = 1 << 16 };
 
 /* So many slots are enough without jobs. With jobs beside them rolls are refused now and then, and run again. */
 enum { JUST_ENOUGH = 8 + 3 };
@@ -13,10 +13,7 @@ enum { JUST_ENOUGH = 8 + 3 };
 /* A job, whose requests are carried out a few in each turn. */
 typedef struct aside {
     bool is_out;
-    uint32_t number;
-    fazgrond_request requests[JOB_REQUESTS];
-    size_t count, done;
-    uint64_t state;
+    job job;
 } aside;
 
 typedef struct guesser {
@@ -41,69 +38,38 @@ static void must(world *self, bool is_so, const char *what) {
 
 /* ---- Jobs. */
 
-static void carry_out_one(world *self, machine *at, aside *job) {
-    const fazgrond_request *request = &job->requests[job->done++];
-    uint64_t *saved = states_saved(&at->states, request->slot);
-    if (request->kind != FAZGROND_JOB_STEP)
-        must(self, request->slot < world_slots(self) && at->states.is_taken[request->slot], "a job's slot isn't its own");
-    switch (request->kind) {
-    case FAZGROND_JOB_LOAD: job->state = *saved; break;
-    case FAZGROND_JOB_SAVE: *saved = job->state; break;
-    default: job->state = world_state_after(job->state, &request->row);
-    }
-}
-
 static bool is_fine(int32_t code) {
     return code == FAZGROND_OK || code == FAZGROND_LATE || code == FAZGROND_ORPHAN || code == FAZGROND_DEAD || code == FAZGROND_TREE_FULL;
 }
 
-static void graft(world *self, guesser *by, machine *at, aside *job) {
+static void graft(world *self, guesser *by, machine *at, aside *one) {
     uint32_t added = 0;
-    int32_t code = fazgrond_graft(&at->session, job->number, &added);
+    int32_t code = fazgrond_graft(&at->session, one->job.number, &added);
     must(self, is_fine(code), "a job that was run isn't taken");
-    must(self, fazgrond_graft(&at->session, job->number, &added) == FAZGROND_NO_JOB, "a job is taken twice");
+    must(self, fazgrond_graft(&at->session, one->job.number, &added) == FAZGROND_NO_JOB, "a job is taken twice");
     by->grafted += code == FAZGROND_OK;
     by->dropped += code != FAZGROND_OK;
     by->kept += code == FAZGROND_OK ? added : 0;
-    job->is_out = false;
+    one->is_out = false;
 }
 
-static void give_up(world *self, guesser *by, machine *at, aside *job) {
-    must(self, fazgrond_forget(&at->session, job->number) == FAZGROND_OK, "a job can't be given up");
-    must(self, fazgrond_forget(&at->session, job->number) == FAZGROND_NO_JOB, "a job is given up twice");
+static void give_up(world *self, guesser *by, machine *at, aside *one) {
+    must(self, fazgrond_forget(&at->session, one->job.number) == FAZGROND_OK, "a job can't be given up");
+    must(self, fazgrond_forget(&at->session, one->job.number) == FAZGROND_NO_JOB, "a job is given up twice");
     by->forgotten++;
-    job->is_out = false;
+    one->is_out = false;
 }
 
 /* Most jobs are done in this turn, and others later; one in sixteen is given up, and all if a roll had no slot. */
-static void go_on(world *self, guesser *by, machine *at, aside *job) {
-    size_t most = draw(by, 4) == 0 ? draw(by, JOB_REQUESTS) : JOB_REQUESTS;
-    for (size_t more = 0; more < most && job->done < job->count; more++)
-        carry_out_one(self, at, job);
+static void go_on(world *self, guesser *by, machine *at, aside *one) {
+    bool is_done = job_run(&one->job, &at->states, draw(by, 4) == 0 ? draw(by, AT_ONCE) : AT_ONCE);
     if (draw(by, 16) == 0 || at->is_short)
-        give_up(self, by, at, job);
-    else if (job->done == job->count)
-        graft(self, by, at, job);
+        give_up(self, by, at, one);
+    else if (is_done)
+        graft(self, by, at, one);
 }
 
 /* ---- Guesses. */
-
-/* The requests of a guess: what it saves to is taken, also if there is no job. */
-static void take_requests(world *self, machine *at, aside *job) {
-    fazgrond_request request;
-    job->count = job->done = 0;
-    while (fazgrond_take_requests(&at->session, &request, 1) > 0) {
-        must(self, request.kind >= FAZGROND_JOB_LOAD && request.slot < world_slots(self) && job->count < JOB_REQUESTS,
-             "a request of a guess");
-        if (self->wrong != NULL)
-            return;
-        if (request.kind == FAZGROND_JOB_SAVE) {
-            must(self, !at->states.is_taken[request.slot], "a job's slot isn't free");
-            at->states.is_taken[request.slot] = true;
-        }
-        job->requests[job->count++] = request;
-    }
-}
 
 static aside *free_job(guesser *by, uint32_t who) {
     for (size_t at = 0; at < JOBS; at++)
@@ -114,19 +80,19 @@ static aside *free_job(guesser *by, uint32_t who) {
 
 static void guess(world *self, guesser *by, uint32_t who, uint8_t player, const uint32_t *words, size_t count) {
     machine *at = &self->machine[who];
-    aside *job = free_job(by, who);
-    if (job == NULL)
+    aside *one = free_job(by, who);
+    if (one == NULL)
         return;
-    int32_t code = fazgrond_guess(&at->session, player, words, count, at->frame, &job->number);
-    take_requests(self, at, job);
-    job->is_out = code == FAZGROND_OK;
+    int32_t code = fazgrond_guess(&at->session, player, words, count, at->frame, &one->job.number);
+    job_take(&one->job, &at->states, &at->session);
+    one->is_out = code == FAZGROND_OK;
     by->refused += code == FAZGROND_NO_MEMORY;
     must(self,
          code == FAZGROND_OK || code == FAZGROND_NOTHING || code == FAZGROND_TREE_FULL || code == FAZGROND_PLAYER_DISCONNECTED
              || (code == FAZGROND_NO_MEMORY && self->setup.slots != 0),
          "a guess is refused");
-    if (job->is_out)
-        go_on(self, by, at, job);
+    if (one->is_out)
+        go_on(self, by, at, one);
 }
 
 /* A player may have pressed or let go the button in each of the frames whose words aren't known. */
@@ -158,9 +124,10 @@ static void look_at_claim(world *self, guesser *by, machine *at) {
     by->claims++;
 }
 
-static void guess_in_turn(world *self, uint32_t who) {
+static void guess_in_turn(machine *at) {
     guesser *by = &the_guesser;
-    machine *at = &self->machine[who];
+    world *self = at->world;
+    uint32_t who = at->me;
     if (by->openings[who] != at->opening)
         memset(by->jobs[who], 0, sizeof by->jobs[who]);
     by->openings[who] = at->opening;
@@ -173,9 +140,12 @@ static void guess_in_turn(world *self, uint32_t who) {
     look_at_claim(self, by, at);
 }
 
+static const program guessing = { .word = world_drawn_word, .has_played = guess_in_turn };
+
 void trial_let_guess(world *self) {
     memset(&the_guesser, 0, sizeof the_guesser);
-    self->after_turn = guess_in_turn;
+    for (uint32_t who = 0; who < MACHINES; who++)
+        self->machine[who].program = &guessing;
 }
 
 /* ---- The same match twice. */
@@ -183,7 +153,7 @@ void trial_let_guess(world *self) {
 typedef struct outcome {
     uint32_t again[MACHINES]; /* frames that were run again */
     uint32_t frames;          /* that all have settled */
-    uint64_t *history;        /* machine 0's */
+    uint64_t *history;        /* machine 0's states */
 } outcome;
 
 static outcome play(const setup *with, bool is_guessing, uint32_t milliseconds) {
@@ -197,13 +167,14 @@ static outcome play(const setup *with, bool is_guessing, uint32_t milliseconds) 
     for (uint32_t who = 0; who < with->machines; who++) {
         const machine *at = &self->machine[who];
         made.again[who] = at->states.steps - at->frame;
-        made.frames = at->settled < made.frames ? at->settled : made.frames;
+        made.frames = at->settled < made.frames ? (uint32_t)at->settled : made.frames;
         trial_must_of(world_agree(self, 0, who, milliseconds / 100), who, "the match goes on, and all agree");
     }
     made.history = malloc((made.frames + 1) * sizeof *made.history);
     if (made.history == NULL)
         abort();
-    memcpy(made.history, self->machine[0].history, (made.frames + 1) * sizeof *made.history);
+    for (uint32_t frame = 0; frame <= made.frames; frame++)
+        made.history[frame] = machine_digest(&self->machine[0], frame);
     world_end(self);
     return made;
 }

@@ -686,7 +686,7 @@ static void lie_to_them(const lie *one, uint32_t seed) {
     with.silent_after = SILENT_AFTER;
     with.words = one->words;
     with.stalled_after = one->stalled_after;
-    with.last_waits = true;
+    with.waits = with.machines;
     with.has_pair_numbers = one->sends == as_another;
     with.input_delay = seed % 3;
     with.seed = seed;
@@ -716,11 +716,12 @@ static void lie_to_them(const lie *one, uint32_t seed) {
 
 /* ---- A liar that never was past frame 0, as it says. */
 
-static void gives_no_more(world *self, uint32_t who) {
-    const lie *one = self->watchers;
-    machine *at = &self->machine[who];
-    at->is_stalled |= who == LIAR && at->frame + self->setup.input_delay >= one->gives;
+static void gives_no_more(machine *self) {
+    const lie *one = self->world->watchers;
+    self->is_stalled |= self->me == LIAR && self->frame + self->world->setup.input_delay >= one->gives;
 }
+
+static const program giving = { .word = world_drawn_word, .has_played = gives_no_more };
 
 static void must_be_out(world *self, uint32_t who, bool is_out) {
     trial_must_of(world_told(self, who, FAZGROND_STALLED, LIAR) == 1, who, "STALLED is told once");
@@ -736,14 +737,14 @@ static void lie_at_frame_0(uint32_t gives, uint32_t input_delay, uint32_t seed) 
     with.machines = 3;
     with.silent_after = SILENT_AFTER;
     with.stalled_after = 2000;
-    with.last_waits = true;
+    with.waits = LIAR + 1;
     with.input_delay = input_delay;
+    with.program = &giving;
     with.seed = seed;
     trial_case("a lie: frame 0 after %u words, delay %u, seed %u", (unsigned)gives, (unsigned)input_delay, (unsigned)seed);
     world *self = world_begin(&with);
     self->watcher = lies_now;
     self->watchers = &one;
-    self->after_turn = gives_no_more;
     world_open_all(self);
     world_run(self, LIES_FOR);
     self->machine[LIAR].is_dead = true; /* it is told that the others regard it as gone */

@@ -329,7 +329,7 @@ static void ends(uint32_t machines, bool is_idle, uint32_t loss, uint32_t seed) 
     for (uint32_t who = 0; who < machines; who++) {
         const machine *at = &self->machine[who];
         trial_must_of(at->frame == 200 && at->settled == 200, who, "all frames are settled");
-        trial_must_of(world_state(at) == at->history[200], who, "what is shown is the settled state");
+        trial_must_of(world_state(at) == machine_digest(at, 200), who, "what is shown is the settled state");
         trial_must_of(world_state(at) == world_state(&self->machine[0]), who, "all show the same");
         trial_must_of(!is_idle || at->states.loads == 0, who, "what is predicted rightly isn't rolled back");
     }

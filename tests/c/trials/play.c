@@ -113,7 +113,7 @@ static bool play_fault(world *all, uint32_t begin, const char *word) {
     if (fields < 3 || who >= (unsigned)self.machines || begin + at < world_millis(all))
         return false;
     world_run(all, begin + at - world_millis(all));
-    fprintf(all->out, "%9.3f  machine %u: %s", (double)all->now / 1e6, who, what);
+    fprintf(all->out, "%9.3f  machine %u: %s", (double)all->now / SECOND, who, what);
     fprintf(all->out, fields > 3 ? " %ld\n" : "\n", number);
     return happens(all, what, who, number);
 }
@@ -123,7 +123,7 @@ static void print_machines(world *all) {
         const machine *at = &all->machine[who];
         if (at->is_open)
             printf("machine %u: frame %u settled %u state %016llx log %zu, %u rollbacks, %u frames run again\n", who, at->frame,
-                   at->settled, (unsigned long long)at->history[at->settled], world_log(all, who), at->states.loads,
+                   (unsigned)at->settled, (unsigned long long)machine_digest(at, at->settled), world_log(all, who), at->states.loads,
                    at->states.steps - at->frame);
     }
     if (all->wrong != NULL)

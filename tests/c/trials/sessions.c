@@ -283,7 +283,7 @@ static void is_told_past(bool is_word, uint32_t seed) {
     world_open_session(self, 0);
     for (size_t one = 0; one + 1 < told.count; one++) {
         trial_must(tell(&at->session, &told.entries[one]) == FAZGROND_OK, "a call is accepted again");
-        world_carry_out(self, 0);
+        machine_carry_out(&self->machine[0]);
     }
     free(told.entries);
     trial_must(world_state(at) == shown, "it shows the same as before");

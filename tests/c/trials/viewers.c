@@ -113,7 +113,7 @@ static void take_rows(scene *self) {
     while (fazgrond_viewer_row(&self->viewer, &row) == FAZGROND_OK) {
         self->state = world_state_after(self->state, &row);
         self->rows++;
-        trial_must(self->rows <= host->settled && self->state == host->history[self->rows], "the viewer's state is the players'");
+        trial_must(self->rows <= host->settled && self->state == machine_digest(host, self->rows), "the viewer's state is the players'");
     }
 }
 
