@@ -10,11 +10,11 @@ typedef struct measured {
     uint64_t received, lost, trips, count;
 } measured;
 
-static measured measure(const machine *of) {
+static measured measure(const participant *of) {
     measured all = { 0 };
     fazgrond_stats stats;
     for (uint32_t at = 0; at < FAZGROND_MACHINES; at++)
-        if (fazgrond_peer_stats((fazgrond_peer *)(uintptr_t)&of->peer, (uint8_t)at, &stats) == FAZGROND_OK) {
+        if (fazgrond_peer_stats(&of->machine->peer, (uint8_t)at, &stats) == FAZGROND_OK) {
             all.received += stats.received;
             all.lost += stats.lost;
             all.trips += stats.is_measured != 0 ? stats.round_trip : 0;
@@ -23,26 +23,30 @@ static measured measure(const machine *of) {
     return all;
 }
 
+static uint32_t frame_of(const participant *of) { return (uint32_t)machine_frame(of->machine); }
+
+static uint32_t settled_of(const participant *of) { return (uint32_t)of->machine->settled; }
+
 bool tables_are_well(const match *of) { return of->has_ended && match_agrees(of) && match_is_honest(of); }
 
 /* ---- What a machine counted, by its name. */
 
-typedef uint64_t count_of(const machine *of);
+typedef uint64_t count_of(const participant *of);
 
-static uint64_t rollbacks(const machine *of) { return of->observer.totals.rollbacks; }
-static uint64_t rerun(const machine *of) { return of->observer.totals.rerun; }
-static uint64_t ggpo(const machine *of) { return of->observer.totals.ggpo; }
-static uint64_t deepest(const machine *of) { return of->observer.totals.deepest; }
-static uint64_t waited(const machine *of) { return of->counts.waited; }
-static uint64_t guessed(const machine *of) { return of->guesser.jobs + of->counts.held_jobs; }
-static uint64_t taken(const machine *of) { return of->guesser.taken + of->counts.held_taken; }
-static uint64_t ahead(const machine *of) { return of->states.job_steps; }
-static uint64_t claims(const machine *of) { return of->observer.claims; }
-static uint64_t wrong(const machine *of) { return of->observer.wrong; }
-static uint64_t held_words(const machine *of) { return observer_held(&of->observer).words; }
-static uint64_t held_turns(const machine *of) { return observer_held(&of->observer).turns; }
-static uint64_t held_soon(const machine *of) { return observer_held(&of->observer).soon; }
-static uint64_t held_jobs(const machine *of) { return of->counts.held_jobs; }
+static uint64_t rollbacks(const participant *of) { return of->observer.totals.rollbacks; }
+static uint64_t rerun(const participant *of) { return of->observer.totals.rerun; }
+static uint64_t ggpo(const participant *of) { return of->observer.totals.ggpo; }
+static uint64_t deepest(const participant *of) { return of->observer.totals.deepest; }
+static uint64_t waited(const participant *of) { return of->machine->waited; }
+static uint64_t guessed(const participant *of) { return of->guesser.jobs + of->counts.held_jobs; }
+static uint64_t taken(const participant *of) { return of->guesser.taken + of->counts.held_taken; }
+static uint64_t ahead(const participant *of) { return of->machine->states.job_steps; }
+static uint64_t claims(const participant *of) { return of->observer.claims; }
+static uint64_t wrong(const participant *of) { return of->observer.wrong; }
+static uint64_t held_words(const participant *of) { return observer_held(&of->observer).words; }
+static uint64_t held_turns(const participant *of) { return observer_held(&of->observer).turns; }
+static uint64_t held_soon(const participant *of) { return observer_held(&of->observer).soon; }
+static uint64_t held_jobs(const participant *of) { return of->counts.held_jobs; }
 
 static const struct {
     const char *name;
@@ -87,10 +91,10 @@ static void print_frame(FILE *out, uint32_t frame, int width) {
 static void print_played(FILE *out, const match *of) {
     fputs("machine    frames   settled    waited  silent at   left at      sent\n", out);
     for (uint32_t at = 0; at < of->plan->machines; at++) {
-        const machine *one = &of->machines[at];
-        fprintf(out, "%-7" PRIu32 "%10" PRIu32 "%10" PRIu32 "%10" PRIu64, at, machine_frame(one), machine_settled(one), one->counts.waited);
+        const participant *one = &of->all[at];
+        fprintf(out, "%-7" PRIu32 "%10" PRIu32 "%10" PRIu32 "%10" PRIu64, at, frame_of(one), settled_of(one), one->machine->waited);
         print_frame(out, of->plan->stops[at], 11);
-        print_frame(out, machine_left(match_first(of), at), 10);
+        print_frame(out, participant_left(match_first(of), at), 10);
         fprintf(out, "%10" PRIu64 "\n", one->counts.sent);
     }
     fputs("\n", out);
@@ -101,7 +105,7 @@ static void print_rolled(FILE *out, const match *of) {
     fprintf(out, "machine rollbacks  run again   by GGPO   deepest    claims     wrong%s\n",
             guesses ? "      jobs     taken  run ahead" : "");
     for (uint32_t at = 0; at < of->plan->machines; at++) {
-        const machine *one = &of->machines[at];
+        const participant *one = &of->all[at];
         fprintf(out, "%-7" PRIu32 "%10" PRIu64 "%11" PRIu64 "%10" PRIu64, at, rollbacks(one), rerun(one), ggpo(one));
         fprintf(out, "%10" PRIu64 "%10" PRIu64 "%10" PRIu64, deepest(one), claims(one), wrong(one));
         if (guesses)
@@ -114,8 +118,8 @@ static void print_rolled(FILE *out, const match *of) {
 static void print_held(FILE *out, const match *of) {
     fputs("machine words held  turns each  at most 2      jobs\n", out);
     for (uint32_t at = 0; at < of->plan->machines; at++) {
-        held_totals held = observer_held(&of->machines[at].observer);
-        uint64_t jobs = held_jobs(&of->machines[at]);
+        held_totals held = observer_held(&of->all[at].observer);
+        uint64_t jobs = held_jobs(&of->all[at]);
         fprintf(out, "%-7" PRIu32 "%11" PRIu64, at, held.words);
         if (held.words == 0) {
             fprintf(out, "%12s%11s%10" PRIu64 "\n", "-", "-", jobs);
@@ -128,14 +132,14 @@ static void print_held(FILE *out, const match *of) {
     fputs("\n", out);
 }
 
-static uint64_t bytes_a_second(const machine *of) {
+static uint64_t bytes_a_second(const participant *of) {
     return of->counts.bytes * TURNS_A_SECOND / (of->counts.sent > 0 ? of->counts.sent : 1);
 }
 
 static void print_measured(FILE *out, const match *of) {
     fputs("machine  bytes/s to each  received      lost   ignored  round trip\n", out);
     for (uint32_t at = 0; at < of->plan->machines; at++) {
-        const machine *one = &of->machines[at];
+        const participant *one = &of->all[at];
         measured all = measure(one);
         fprintf(out, "%-7" PRIu32 "%17" PRIu64 "%10" PRIu64 "%10" PRIu64 "%10" PRIu64, at, bytes_a_second(one), all.received, all.lost,
                 one->counts.ignored);
@@ -150,45 +154,47 @@ static void print_measured(FILE *out, const match *of) {
 static void print_hostile(FILE *out, const match *of) {
     uint64_t hostile = 0, again = 0, fooled = 0;
     for (uint32_t at = 0; at < of->plan->machines; at++) {
-        hostile += of->machines[at].counts.hostile;
-        again += of->machines[at].counts.again;
-        fooled += of->machines[at].counts.fooled;
+        hostile += of->all[at].counts.hostile;
+        again += of->all[at].counts.again;
+        fooled += of->all[at].counts.fooled;
     }
     fprintf(out, "hostile datagrams: %" PRIu64 "; ignored: %" PRIu64 "; real ones heard again: %" PRIu64 "; deceived: %" PRIu64 "\n\n",
             hostile, hostile - again - fooled, again, fooled);
 }
 
 static void print_bases(FILE *out, const char *before, const char *between, const match *of) {
-    const machine *first = match_first(of);
+    const participant *first = match_first(of);
     for (uint32_t at = 0; at < first->base_count; at++)
         fprintf(out, "%s%" PRIu32, at == 0 ? before : between, first->bases[at]);
 }
 
 static void print_lefts(FILE *out, const match *of) {
-    const machine *first = match_first(of);
+    const participant *first = match_first(of);
     for (uint32_t at = 0; at < of->plan->machines; at++) {
-        if (machine_left(first, at) != NEVER)
-            fprintf(out, ", machine %" PRIu32 " left at %" PRIu32, at, machine_left(first, at));
+        if (participant_left(first, at) != NEVER)
+            fprintf(out, ", machine %" PRIu32 " left at %" PRIu32, at, participant_left(first, at));
         if (first->came[at] != NEVER)
             fprintf(out, ", machine %" PRIu32 " came at %" PRIu32, at, first->came[at]);
-        if (of->machines[at].dropped != NEVER)
-            fprintf(out, ", machine %" PRIu32 " was cut off at %" PRIu32, at, of->machines[at].dropped);
+        if (of->all[at].dropped != NEVER)
+            fprintf(out, ", machine %" PRIu32 " was cut off at %" PRIu32, at, of->all[at].dropped);
     }
 }
 
 static void print_state(FILE *out, const match *of) {
     char text[GAME_TEXT];
-    of->plan->game->text(machine_settled_state(match_first(of)), text);
+    of->plan->game->text(states_settled(&match_first(of)->machine->states), text);
     fputs(text, out);
 }
 
 /* Whether the machines that stay agree. */
 static void print_end(FILE *out, const match *of) {
-    uint32_t settled = machine_settled(match_first(of)), count = plan_count_staying(of->plan);
+    uint32_t settled = settled_of(match_first(of)), count = plan_count_staying(of->plan);
     if (!of->has_ended) {
         fprintf(out, "THE MATCH DOESN'T END: frame %" PRIu32 " is settled\n", settled);
     } else if (!match_agrees(of)) {
         fprintf(out, "THE MACHINES DIFFER: %" PRIu32 " stay\n", count);
+    } else if (of->world->wrong != NULL) {
+        fprintf(out, "A MACHINE WENT WRONG: %s\n", of->world->wrong);
     } else if (!match_is_honest(of)) {
         fputs("A MACHINE WAS DECEIVED\n", out);
     } else {
@@ -225,11 +231,11 @@ static void print_line(FILE *out, const match *of) {
             continue;
         fprintf(out, " %s", each_count[one].name);
         for (uint32_t at = 0; at < of->plan->machines; at++)
-            fprintf(out, "%c%" PRIu64, at == 0 ? '=' : ',', each_count[one].count(&of->machines[at]));
+            fprintf(out, "%c%" PRIu64, at == 0 ? '=' : ',', each_count[one].count(&of->all[at]));
     }
     if (plan_goes_on(of->plan))
         print_bases(out, " epochs=", ",", of);
-    fprintf(out, " settled=%" PRIu32 " agree=%s state=", machine_settled(match_first(of)), tables_are_well(of) ? "yes" : "no");
+    fprintf(out, " settled=%" PRIu32 " agree=%s state=", settled_of(match_first(of)), tables_are_well(of) ? "yes" : "no");
     print_state(out, of);
     fputs("\n", out);
 }
@@ -259,11 +265,11 @@ static void json_frame(FILE *out, const char *name, uint32_t frame) {
 }
 
 static void json_machine(FILE *out, const match *of, uint32_t at) {
-    const machine *one = &of->machines[at], *first = match_first(of);
+    const participant *one = &of->all[at], *first = match_first(of);
     measured all = measure(one);
-    fprintf(out, "{\"machine\":%" PRIu32 ",\"frames\":%" PRIu32 ",\"settled\":%" PRIu32, at, machine_frame(one), machine_settled(one));
+    fprintf(out, "{\"machine\":%" PRIu32 ",\"frames\":%" PRIu32 ",\"settled\":%" PRIu32, at, frame_of(one), settled_of(one));
     json_frame(out, "silent_at", of->plan->stops[at]);
-    json_frame(out, "left_at", machine_left(first, at));
+    json_frame(out, "left_at", participant_left(first, at));
     json_frame(out, "came_at", first->came[at]);
     json_frame(out, "cut_off_at", one->dropped);
     for (size_t count = 0; count < COUNTS; count++)
@@ -294,7 +300,7 @@ void tables_json(FILE *out, const match *of) {
         fputs(at > 0 ? "," : "", out);
         json_machine(out, of, at);
     }
-    fprintf(out, "],\"settled\":%" PRIu32 ",\"ended\":%s,\"agree\":%s", machine_settled(match_first(of)), of->has_ended ? "true" : "false",
+    fprintf(out, "],\"settled\":%" PRIu32 ",\"ended\":%s,\"agree\":%s", settled_of(match_first(of)), of->has_ended ? "true" : "false",
             tables_are_well(of) ? "true" : "false");
     print_bases(out, ",\"epochs\":[", ",", of);
     fputs("],\"state\":\"", out);

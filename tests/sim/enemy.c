@@ -7,14 +7,14 @@
 
 enum { TRICKS = 5, KIND_AT = 13, HELLO = 0, SHORTEST_SEALED = 12 };
 
-void enemy_see(enemy *self, datagram *come, bool stays) {
+void enemy_see(enemy *self, const datagram *come, bool stays) {
     heard *to = stays ? &self->lasting : &self->parting;
     if (to->count < ENEMY_KEEPS) {
-        to->kept[to->count++] = come;
+        to->kept[to->count++] = datagram_copied(come);
         return;
     }
     free(to->kept[to->oldest]);
-    to->kept[to->oldest] = come;
+    to->kept[to->oldest] = datagram_copied(come);
     to->oldest = (to->oldest + 1) % ENEMY_KEEPS;
 }
 

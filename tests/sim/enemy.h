@@ -27,8 +27,8 @@ typedef struct enemy {
     uint8_t bytes[ENEMY_BYTES + 4];
 } enemy;
 
-/* Sees a datagram that its machine has heard, and keeps it. */
-void enemy_see(enemy *self, datagram *come, bool stays);
+/* Sees a datagram that its machine has heard, and keeps a copy. */
+void enemy_see(enemy *self, const datagram *come, bool stays);
 
 /* Makes a datagram for its machine, which regards these machines as gone, and says how it is to deceive. */
 trick enemy_make(enemy *self, const bool gone[FAZGROND_MACHINES]);

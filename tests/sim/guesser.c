@@ -82,16 +82,18 @@ static int32_t guess_again(fazgrond_session *session, states *states, uint32_t p
 }
 
 static int32_t make(guesser *self, fazgrond_session *session, states *states, uint32_t place, const fazgrond_foreseen *guess, came *came) {
-    uint32_t job, added, to = until(self, session, place, guess->count);
-    int32_t why = fazgrond_guess(session, (uint8_t)(place + 1), guess->words, guess->count, to, &job);
+    job todo;
+    uint32_t added, to = until(self, session, place, guess->count);
+    int32_t why = fazgrond_guess(session, (uint8_t)(place + 1), guess->words, guess->count, to, &todo.number);
     *came = CAME_KEPT;
     if (why == FAZGROND_NO_MEMORY)
-        why = guess_again(session, states, place, guess, to, &job);
+        why = guess_again(session, states, place, guess, to, &todo.number);
     if (why != FAZGROND_OK)
         return why == FAZGROND_NOTHING ? FAZGROND_OK : why;
-    states_carry_out_all(states, session);
+    job_take(&todo, states, session);
+    job_run(&todo, states, todo.count);
     self->jobs++;
-    why = fazgrond_graft(session, job, &added);
+    why = fazgrond_graft(session, todo.number, &added);
     self->taken += why == FAZGROND_OK;
     *came = why == FAZGROND_OK ? CAME_TAKEN : CAME_REFUSED;
     trace_guess(self->trace, self->me, place + 1, guess, to, why == FAZGROND_OK);

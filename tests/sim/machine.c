@@ -16,7 +16,8 @@ static void must(const machine *self, bool is_so, const char *what) {
 /* A call is taken, or, where memory or slots may lack, refused for that alone. */
 static void must_be_taken(const machine *self, int32_t code, const char *what) {
     bool lacks = code == FAZGROND_NO_MEMORY && (with(self)->slots != 0 || with(self)->lacks_memory);
-    must(self, code == FAZGROND_OK || lacks, what);
+    if (code != FAZGROND_OK && !lacks)
+        world_refuse(self->world, code, what);
 }
 
 static uint32_t now_of(const machine *self) { return world_clock(self->world, self->me); }
@@ -25,7 +26,7 @@ static uint32_t now_of(const machine *self) { return world_clock(self->world, se
 
 const fazgrond_epoch *machine_epoch(const machine *self) { return &self->parts[self->part_count - 1].epoch; }
 
-uint64_t machine_base(const machine *self) { return machine_epoch(self)->base; }
+uint64_t machine_base(const machine *self) { return self->part_count > 0 ? machine_epoch(self)->base : 0; }
 
 static void see_frame(machine *self) { fazgrond_frame(&self->session, &self->frame); }
 
@@ -69,14 +70,6 @@ static bool is_settled(const machine *self, const void *state) {
     return memcmp(state, states_settled(&self->states), self->states.game->size) == 0;
 }
 
-static void note(machine *self, uint32_t frame) {
-    if (frame == self->noted)
-        return;
-    self->noted = frame;
-    must(self, fazgrond_peer_note_settled(&self->peer, &self->session, machine_digest(self, self->settled)) == FAZGROND_OK,
-         "a settled state isn't noted");
-}
-
 void machine_see_settled(machine *self) {
     uint32_t frame, slot;
     fazgrond_row row;
@@ -92,7 +85,15 @@ void machine_see_settled(machine *self) {
     }
     must(self, self->states.is_taken[slot] && is_settled(self, states_saved(&self->states, slot)),
          "the settled state isn't that of the settled rows");
-    note(self, frame);
+}
+
+static void note(machine *self) {
+    uint32_t frame = (uint32_t)(self->settled - machine_base(self));
+    if (frame == self->noted)
+        return;
+    self->noted = frame;
+    must_be_taken(self, fazgrond_peer_note_settled(&self->peer, &self->session, machine_digest(self, self->settled)),
+                  "a settled state isn't noted");
 }
 
 /* ---- Requests. */
@@ -264,7 +265,8 @@ static int32_t give(machine *self, uint32_t player) {
     fazgrond_input_frame(&self->session, (uint8_t)(player + 1), &frame);
     int32_t code = fazgrond_add_local_input(&self->session, (uint8_t)(player + 1), word);
     bool is_given = code == FAZGROND_INPUT_TWICE && self->is_short; /* the roll that it was given for is made again */
-    must(self, is_given || frame == self->frame + machine_epoch(self)->delays[player], "a word counts in another frame than its delay says");
+    must(self, is_given || frame == self->frame + machine_epoch(self)->delays[player],
+         "a word counts in another frame than its delay says");
     if (self->program->gave != NULL && !is_given)
         self->program->gave(self, player, frame, word, code);
     return is_given ? FAZGROND_OK : code;
@@ -278,18 +280,20 @@ static bool gives_none(const machine *self) {
 /* Its words: all are taken, or none since the session is too far ahead, or since it gives none in this turn. */
 static bool give_words(machine *self) {
     int32_t code = FAZGROND_LOCAL_INPUT_MISSING;
-    if (self->wait > 0) {
-        self->wait--;
-        return false;
-    }
     if (gives_none(self))
         return false;
+    if (self->wait > 0) {
+        self->wait--;
+        self->waited++;
+        return false;
+    }
     for (uint32_t player = 0; player < world_players(self->world); player++)
         if (is_own(self, player)) {
             int32_t one = give(self, player);
             must(self, code == FAZGROND_LOCAL_INPUT_MISSING || one == code, "one word is taken and another refused");
             code = one;
         }
+    self->waited += code == FAZGROND_PREDICTION_THRESHOLD;
     if (code != FAZGROND_PREDICTION_THRESHOLD && code != FAZGROND_LOCAL_INPUT_MISSING)
         must_be_taken(self, code, "a word is refused");
     return code == FAZGROND_OK;
@@ -381,6 +385,8 @@ void machine_turn(machine *self) {
     bool has_given = false;
     self->has_rolled = false;
     hear(self);
+    if (self->program->has_heard != NULL)
+        self->program->has_heard(self);
     if (!with(self)->polls_late)
         poll(self);
     go_on(self);
@@ -395,6 +401,7 @@ void machine_turn(machine *self) {
         play(self, has_given);
     machine_carry_out(self);
     machine_see_settled(self);
+    note(self);
     if (self->program->has_played != NULL)
         self->program->has_played(self);
     machine_hear_events(self);

@@ -34,6 +34,8 @@ typedef struct program {
     /* A datagram is about to be heard; and was, with what was answered. */
     void (*hears)(machine *self, const datagram *come);
     void (*heard)(machine *self, const datagram *come, int32_t code);
+    /* All that has come in this turn was heard; its peer was polled. */
+    void (*has_heard)(machine *self);
     void (*has_polled)(machine *self);
     /* An epoch has ended, and its jobs are out: they are to be forgotten. */
     void (*ends_jobs)(machine *self);
@@ -65,9 +67,10 @@ struct machine {
     uint64_t draw;
     uint32_t opening; /* how often it was opened */
     uint64_t next_turn, turns;
-    uint32_t frame; /* of its session */
-    uint32_t wait;  /* for so many turns it gives no words, as it was advised */
-    bool is_short;  /* a call had no memory, or no slot: it is made again in the next turn */
+    uint32_t frame;  /* of its session */
+    uint32_t wait;   /* for so many turns it gives no words, as it was advised */
+    uint64_t waited; /* the turns in which it gave none for that, or since it was too far ahead */
+    bool is_short;   /* a call had no memory, or no slot: it is made again in the next turn */
 
     /* Its game; the row of each frame that isn't settled as it ran last; all that it has settled, from its first frame on. */
     states states;

@@ -22,8 +22,7 @@ static void make_room(network *self) {
         abort();
 }
 
-/* A copy with the bytes that it has alone. */
-static datagram *copied(const datagram *sent) {
+datagram *datagram_copied(const datagram *sent) {
     datagram *made = malloc(offsetof(datagram, bytes) + sent->length);
     if (made == NULL || sent->length > sizeof sent->bytes)
         abort();
@@ -32,7 +31,7 @@ static datagram *copied(const datagram *sent) {
 }
 
 void network_put(network *self, const datagram *sent, uint64_t due) {
-    datagram *made = copied(sent);
+    datagram *made = datagram_copied(sent);
     made->due = due;
     made->order = self->orders++;
     make_room(self);

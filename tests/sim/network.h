@@ -1,7 +1,7 @@
 /* The network between machines: datagrams on their way. What becomes of each is drawn: whether it is lost, how late it comes, and whether
  * it comes twice. All of it is drawn for each datagram, so that what is lost doesn't change how late the others are.
  *
- * The world that has the network says what a moment is: microseconds, or turns. */
+ * The world that has the network says what a moment is. */
 #ifndef SIM_NETWORK_H
 #define SIM_NETWORK_H
 
@@ -46,4 +46,7 @@ uint64_t network_due(const network *self);
 datagram *network_take(network *self);
 
 void network_close(network *self);
+
+/* A copy of a datagram, with the bytes that it has alone; it is the caller's, to be freed. */
+datagram *datagram_copied(const datagram *sent);
 #endif

@@ -31,6 +31,17 @@ static void must(world *self, bool is_so, const char *what) {
         self->wrong = what;
 }
 
+void world_refuse(world *self, int32_t code, const char *what) {
+    if (self->wrong == NULL)
+        self->refused = code;
+    must(self, false, what);
+}
+
+static void must_be_taken(world *self, int32_t code, const char *what) {
+    if (code != FAZGROND_OK)
+        world_refuse(self, code, what);
+}
+
 /* ---- Numbers by chance, and time. */
 
 uint32_t world_draw(world *self, uint32_t below) { return draws_below(&self->random, below); }
@@ -69,7 +80,7 @@ static void arrive(world *self, datagram *come) {
 
 /* ---- The game. */
 
-uint32_t world_slots(const world *self) { return self->setup.slots != 0 ? self->setup.slots : SLOTS; }
+uint32_t world_slots(const world *self) { return self->setup.slots != 0 ? self->setup.slots : GAME_SLOTS; }
 
 static const game *game_of(const world *self) { return self->setup.game != NULL ? self->setup.game : &game_digest; }
 
@@ -95,9 +106,7 @@ static const program drawing = { .word = world_drawn_word };
 
 static uint32_t words_of(const world *self) { return self->setup.words != 0 ? self->setup.words : 1; }
 
-uint32_t world_players(const world *self) {
-    return self->setup.players != 0 ? self->setup.players : self->setup.machines * words_of(self);
-}
+uint32_t world_players(const world *self) { return self->setup.players != 0 ? self->setup.players : self->setup.machines * words_of(self); }
 
 uint32_t world_owner(const world *self, uint32_t player) {
     if (self->setup.has_owners)
@@ -154,9 +163,9 @@ fazgrond_match world_match(const world *self, uint32_t who, uint32_t seat) {
 }
 
 static void open_session(world *self, machine *at, const fazgrond_settings *settings) {
-    must(self, fazgrond_open(&at->session, settings) == FAZGROND_OK, "a session doesn't open");
+    must_be_taken(self, fazgrond_open(&at->session, settings), "a session doesn't open");
     if (self->setup.slots != 0)
-        must(self, fazgrond_limit_slots(&at->session, self->setup.slots) == FAZGROND_OK, "slots can't be limited");
+        must_be_taken(self, fazgrond_limit_slots(&at->session, self->setup.slots), "slots can't be limited");
     states_open(&at->states, game_of(self), world_players(self), world_slots(self));
 }
 
@@ -194,6 +203,14 @@ static void begin_anew(machine *at, uint32_t seat) {
     at->is_running = at->is_short = at->is_closing = at->is_fewer = at->is_dead = at->stays_behind = false;
 }
 
+/* Where turns are alike, the one that all have now, unless those behind it have begun theirs; else a moment within the first one. */
+static uint64_t first_turn(world *self, uint32_t who) {
+    bool is_past = self->whose < MACHINES && who <= self->whose;
+    if (self->setup.turn != 0)
+        return self->now + (is_past ? self->setup.turn : 0);
+    return self->now + MICROSECOND * (uint64_t)world_draw(self, 1000000 / self->setup.rate);
+}
+
 void world_open_in(world *self, uint32_t who, uint32_t seat, const fazgrond_epoch *epoch, const void *state) {
     machine *at = &self->machine[who];
     begin_anew(at, seat);
@@ -207,10 +224,10 @@ void world_open_in(world *self, uint32_t who, uint32_t seat, const fazgrond_epoc
     if (state != NULL)
         states_begin(&at->states, state, epoch->base);
     machine_begin_in(at, epoch);
-    must(self, open_peer(at, &match, epoch) == FAZGROND_OK, "a machine doesn't open");
+    must_be_taken(self, open_peer(at, &match, epoch), "a machine doesn't open");
     at->opening++;
     at->is_open = true;
-    at->next_turn = self->now + (self->setup.turn != 0 ? 0 : MICROSECOND * (uint64_t)world_draw(self, 1000000 / self->setup.rate));
+    at->next_turn = first_turn(self, who);
 }
 
 void world_open(world *self, uint32_t who) {
@@ -284,6 +301,7 @@ world *world_begin(const setup *with) {
         for (uint32_t other = 0; other <= one; other++)
             self->numbers[one][other] = self->numbers[other][one] = with->has_pair_numbers ? draws_wide(&self->random) : 0x5eed5eed5eed5eed;
     self->now = SECOND;
+    self->whose = MACHINES;
     for (uint32_t who = 0; who < MACHINES; who++) {
         self->machine[who].world = self;
         self->machine[who].me = who;
@@ -335,9 +353,11 @@ static bool step(world *self, uint64_t until) {
     if (come_at <= turn_at) {
         arrive(self, network_take(&self->network));
     } else {
+        self->whose = who;
         self->machine[who].next_turn += turn_length(self);
         if (!self->machine[who].hangs)
             machine_turn(&self->machine[who]);
+        self->whose = MACHINES;
     }
     return true;
 }

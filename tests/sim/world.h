@@ -10,7 +10,7 @@
 
 /* The world's moments: so many are a microsecond, that a sixtieth of a second is a whole number of them. */
 enum { MICROSECOND = 3, MILLISECOND = 1000 * MICROSECOND, SECOND = 1000 * MILLISECOND };
-enum { SLOTS = 512, MOST_TOLD = 1 << 15, NOBODY = 99 };
+enum { MOST_TOLD = 1 << 15, NOBODY = 99 };
 
 typedef struct setup {
     const game *game;       /* null: the digest of all rows */
@@ -25,8 +25,8 @@ typedef struct setup {
     uint64_t comers;
 
     /* Time. With turns that are alike, all machines have theirs at the same moments, one after another; and delay and jitter are turns. */
-    uint32_t rate; /* turns a second */
-    uint32_t turn; /* or moments of a turn, which are all alike then; 0: they aren't */
+    uint32_t rate;          /* turns a second */
+    uint32_t turn;          /* or moments of a turn, which are all alike then; 0: they aren't */
     uint32_t delay, jitter; /* milliseconds one way: at least so many, and so many more at most */
     uint32_t loss, copies;  /* of a hundred datagrams: how many are lost, and how many come twice */
     uint32_t silent_after, notify_after, stalled_after;
@@ -67,8 +67,9 @@ typedef bool on_sent(world *self, datagram *sent);
 struct world {
     setup setup;
     machine machine[MACHINES];
-    uint64_t now; /* moments */
-    uint32_t turn; /* how many turns have passed that are alike */
+    uint64_t now;   /* moments */
+    uint32_t turn;  /* how many turns have passed that are alike */
+    uint32_t whose; /* the machine whose turn it is; MACHINES between two turns */
     draws random;
     uint64_t numbers[MACHINES][MACHINES];
     bool is_cut[MACHINES][MACHINES]; /* nothing goes from one to another */
@@ -79,6 +80,7 @@ struct world {
     size_t events;
     FILE *out;         /* where all that is told is printed, if it isn't null */
     const char *wrong; /* what went wrong first: null if nothing */
+    int32_t refused;   /* with which code a call was refused that has to be taken, if that went wrong */
 };
 
 /* A world in which no machine is open yet. What an earlier one had is given back. */
@@ -123,6 +125,9 @@ void world_post(world *self, datagram *sent);
 
 /* No datagram goes between two machines from now on, or they do again. */
 void world_cut(world *self, uint32_t one, uint32_t other, bool is_cut);
+
+/* A call was refused that has to be taken. */
+void world_refuse(world *self, int32_t code, const char *what);
 
 /* A machine was told something. */
 void world_tell(world *self, uint32_t who, const fazgrond_event *event);
