@@ -87,7 +87,7 @@ typedef struct match {
     uint32_t own[FRAMES], theirs[FRAMES], when[FRAMES]; /* the words, and the frame in which player 2's is heard */
     uint32_t used[FRAMES];                              /* player 2's, by which each frame was played last */
     uint32_t heard;
-    uint64_t state, saved[SLOTS];
+    uint64_t state, saved[GAME_SLOTS];
     uint32_t again, ggpo, jobs; /* frames that were run again; that GGPO runs again; jobs, */
     uint32_t full;              /* and those for whose states there was no room */
 } match;
@@ -125,7 +125,7 @@ static uint32_t carry_out(match *self) {
     uint64_t aside = 0;
     uint32_t frames = 0;
     while (fazgrond_take_requests(&self->session, &request, 1) > 0) {
-        if (request.kind != FAZGROND_STEP && request.kind != FAZGROND_JOB_STEP && request.slot >= SLOTS)
+        if (request.kind != FAZGROND_STEP && request.kind != FAZGROND_JOB_STEP && request.slot >= GAME_SLOTS)
             abort();
         switch (request.kind) {
         case FAZGROND_LOAD: self->state = self->saved[request.slot]; break;
