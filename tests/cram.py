@@ -1,10 +1,11 @@
 #!/usr/bin/env python3
-"""Files of commands, each with what it prints (tests/runs, tests/sim/runs): tests/cram.py PROGRAM.. FILE.t..
+"""Files of commands, each with what it prints (tests/runs, tests/sim/runs): tests/cram.py PROGRAM.. [LIBRARY.so] FILE.t..
 
 They have the form of the tool cram: what doesn't begin with two spaces is a comment; a line `  $ ` is a command for the shell, which lines
 `  > ` go on with; then comes what it prints on both streams, and `  [N]` where its status isn't 0. The commands of a file share a shell and
-a new folder; the examples of the project stand in `../examples`, and its documents in `../docs`. The last line is `N passed, M failed`, by
-commands. The scripts beside this one and below play those that need more.
+a new folder; the examples of the project stand in `../examples`, and its documents in `../docs`; the path of a library that is to be
+preloaded, refuse.so, is `$REFUSE`. The last line is `N passed, M failed`, by commands. The scripts beside this one and below play those
+that need more.
 """
 import re
 import subprocess
@@ -74,8 +75,10 @@ def play(file, programs, variables, shown=""):
 
 
 def main():
-    programs = {Path(it).name: it for it in sys.argv[1:] if not it.endswith(".t")}
-    counts = [play(Path(it), programs, {}) for it in sys.argv[1:] if it.endswith(".t")]
+    given = [it for it in sys.argv[1:] if not it.endswith(".t")]
+    programs = {Path(it).name: it for it in given if not it.endswith(".so")}
+    libraries = {Path(it).stem.upper(): str(Path(it).resolve()) for it in given if it.endswith(".so")}
+    counts = [play(Path(it), programs, libraries) for it in sys.argv[1:] if it.endswith(".t")]
     passed, failed = map(sum, zip(*counts))
     print(f"{passed} passed, {failed} failed")
     return failed != 0

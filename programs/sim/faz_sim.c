@@ -36,7 +36,7 @@ int main(int count, char **words) {
         return EXIT_NOT_PLAYED;
     if (asked.is_help) {
         options_help(stdout);
-        return fflush(stdout) == 0 ? EXIT_WELL : EXIT_NOT_PLAYED;
+        return fflush(stdout) == 0 ? EXIT_WELL : cannot_write();
     }
     if (asked.trace != NULL && (tracer.out = fopen(asked.trace, "w")) == NULL)
         return cannot_write();

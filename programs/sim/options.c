@@ -1,5 +1,7 @@
 #include "options.h"
 
+#include "../../tests/sim/room.h"
+
 #include "faults.h"
 
 #include <inttypes.h>
@@ -332,10 +334,8 @@ bool options_read(char **words, request *out) {
     size_t count = 0;
     while (words[count] != NULL)
         count++;
-    given from = { .which = calloc(count + 1, sizeof *from.which), .texts = calloc(count + 1, sizeof *from.texts) };
-    const char **texts = calloc(count + 1, sizeof *texts);
-    if (from.which == NULL || from.texts == NULL || texts == NULL)
-        abort();
+    given from = { .which = room_of(count + 1, sizeof *from.which), .texts = room_of(count + 1, sizeof *from.texts) };
+    const char **texts = room_of(count + 1, sizeof *texts);
     bool is_read = read_all(&from, words);
     *out = (request){ .is_help = from.values[HELP] != NULL, .is_json = from.values[JSON] != NULL, .trace = from.values[TRACE] };
     is_read = is_read && (out->is_help || read_plan(&from, out, texts));

@@ -1,8 +1,8 @@
 #include "by_plan.h"
 
 #include "hello.h"
+#include "room.h"
 
-#include <stdlib.h>
 #include <string.h>
 
 /* The streams from which is drawn what machine 0 presses, how it is deceived, and its first and second opening; the others follow. */
@@ -72,9 +72,7 @@ static void draw_words(participant *self) {
     draws from = draws_of(with->seed, WORD_STREAM + self->machine->me);
     uint32_t choice = 0;
     self->word_count = (size_t)with->delay + with->frames;
-    self->words = calloc(self->word_count, sizeof *self->words);
-    if (self->words == NULL)
-        abort();
+    self->words = room_of(self->word_count, sizeof *self->words);
     for (size_t at = with->delay; at < self->word_count; at++) {
         if (draws_below(&from, with->hold) == 0)
             choice = (choice + 1 + draws_below(&from, CHOICES - 1)) % CHOICES;
@@ -86,9 +84,7 @@ static void open_enemy(participant *self) {
     const plan *with = self->plan;
     if (!with->is_hostile)
         return;
-    self->enemy = calloc(1, sizeof *self->enemy);
-    if (self->enemy == NULL)
-        abort();
+    self->enemy = room_of(1, sizeof *self->enemy);
     self->enemy->draws = draws_of(with->hostile, ENEMY_STREAM + self->machine->me);
     self->enemy->number = number_of(with);
     self->enemy->me = self->machine->me;

@@ -1,10 +1,10 @@
 #include "game.h"
 
 #include "../../programs/duel/duel.h"
+#include "room.h"
 
 #include <inttypes.h>
 #include <stdio.h>
-#include <stdlib.h>
 #include <string.h>
 
 enum { GONE_ADDS = 5, TALLY_BELOW = 1000000, REQUESTS = 16 };
@@ -77,11 +77,16 @@ void *states_settled(const states *self) { return state_at(self, SETTLED); }
 
 void *states_saved(const states *self, uint32_t slot) { return state_at(self, FIRST_SLOT + slot); }
 
+static bool must(states *self, bool is_so, const char *what) {
+    if (!is_so && self->wrong == NULL)
+        self->wrong = what;
+    return is_so;
+}
+
 void states_open(states *self, const game *game, uint32_t players, uint32_t slots) {
     states_close(self);
-    *self = (states){ .game = game, .slots = slots, .bytes = calloc(FIRST_SLOT + (size_t)slots, game->size) };
-    if (self->bytes == NULL || game->size > GAME_STATE)
-        abort();
+    *self = (states){ .game = game, .slots = slots, .bytes = room_of(FIRST_SLOT + (size_t)slots, game->size) };
+    must(self, game->size <= GAME_STATE, "a state is too large");
     game->open(states_current(self), players);
     states_begin(self, states_current(self), 0);
 }
@@ -115,12 +120,6 @@ static void load(states *self, void *state, uint64_t *frame, uint32_t slot) {
 static void save(states *self, const void *state, uint64_t frame, uint32_t slot) {
     memcpy(states_saved(self, slot), state, self->game->size);
     self->frames[slot] = frame;
-}
-
-static bool must(states *self, bool is_so, const char *what) {
-    if (!is_so && self->wrong == NULL)
-        self->wrong = what;
-    return is_so;
 }
 
 static bool is_kind(const fazgrond_request *request, uint32_t first, uint32_t last) {

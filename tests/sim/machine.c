@@ -1,7 +1,7 @@
 #include "claim.h"
+#include "room.h"
 #include "world.h"
 
-#include <stdlib.h>
 #include <string.h>
 
 enum { REQUESTS = 16, UNTOLD = 77 };
@@ -46,9 +46,7 @@ static record *next_record(machine *self) {
     size_t at = (size_t)(self->settled++ - self->from);
     if (at == self->record_room) {
         self->record_room = 2 * self->record_room + 1024;
-        self->records = realloc(self->records, self->record_room * sizeof *self->records);
-        if (self->records == NULL)
-            abort();
+        self->records = room_grown(self->records, self->record_room, sizeof *self->records);
     }
     return &self->records[at];
 }
@@ -147,9 +145,7 @@ void machine_synchronize(machine *self) {
 static void push_epoch(machine *self, const fazgrond_epoch *epoch) {
     if (self->part_count == self->part_room) {
         self->part_room = 2 * self->part_room + 4;
-        self->parts = realloc(self->parts, self->part_room * sizeof *self->parts);
-        if (self->parts == NULL)
-            abort();
+        self->parts = room_grown(self->parts, self->part_room, sizeof *self->parts);
     }
     self->parts[self->part_count++] = (part){ *epoch, self->world->now };
     self->noted = 0;
@@ -209,9 +205,7 @@ static void go_on(machine *self) {
 void machine_post(machine *self, datagram *come) {
     if (self->waiting == self->inbox_room) {
         self->inbox_room = 2 * self->inbox_room + 64;
-        self->inbox = realloc(self->inbox, self->inbox_room * sizeof *self->inbox);
-        if (self->inbox == NULL)
-            abort();
+        self->inbox = room_grown(self->inbox, self->inbox_room, sizeof *self->inbox);
     }
     self->inbox[self->waiting++] = come;
 }

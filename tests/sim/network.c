@@ -1,6 +1,7 @@
 #include "network.h"
 
-#include <stdlib.h>
+#include "room.h"
+
 #include <string.h>
 
 static bool is_before(const datagram *one, const datagram *other) {
@@ -17,16 +18,13 @@ static void make_room(network *self) {
     if (self->count < self->room)
         return;
     self->room = 2 * self->room + 64;
-    self->way = realloc(self->way, self->room * sizeof *self->way);
-    if (self->way == NULL)
-        abort();
+    self->way = room_grown(self->way, self->room, sizeof *self->way);
 }
 
 datagram *datagram_copied(const datagram *sent) {
-    datagram *made = malloc(offsetof(datagram, bytes) + sent->length);
-    if (made == NULL || sent->length > sizeof sent->bytes)
-        abort();
-    memcpy(made, sent, offsetof(datagram, bytes) + sent->length);
+    size_t length = offsetof(datagram, bytes) + sent->length;
+    datagram *made = room_grown(NULL, 1, length);
+    memcpy(made, sent, length);
     return made;
 }
 

@@ -1,6 +1,7 @@
 #include "observer.h"
 
-#include <stdlib.h>
+#include "room.h"
+
 #include <string.h>
 
 enum { SOON = 2 };
@@ -90,9 +91,7 @@ bool observer_note_roll(observer *self, fazgrond_session *session) {
 static void push_until(uint32_t **turns, uint32_t *count, uint32_t *room, uint32_t until, uint32_t turn) {
     if (until > *room) {
         *room = 2 * until + 64;
-        *turns = realloc(*turns, *room * sizeof **turns);
-        if (*turns == NULL)
-            abort();
+        *turns = room_grown(*turns, *room, sizeof **turns);
     }
     while (*count < until)
         (*turns)[(*count)++] = turn;
