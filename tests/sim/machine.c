@@ -159,6 +159,12 @@ void machine_begin_in(machine *self, const fazgrond_epoch *epoch) {
     see_frame(self);
 }
 
+void machine_view(machine *self, const fazgrond_epoch *epoch, const fazgrond_row *row) {
+    if (self->part_count == 0 || machine_epoch(self)->id != epoch->id)
+        push_epoch(self, epoch);
+    keep(self, self->part_count - 1, row);
+}
+
 /* The next epoch begins: the frame that is shown stays, unless the session may not run so far ahead any more. */
 static void begin_epoch(machine *self, uint64_t before, uint32_t frames) {
     fazgrond_epoch last = *machine_epoch(self), next;
@@ -218,6 +224,8 @@ void machine_empty(machine *self) {
 static void hear_one(machine *self, const datagram *come) {
     if (self->program->hears != NULL)
         self->program->hears(self, come);
+    if (self->comes)
+        return;
     int32_t code = fazgrond_peer_receive(&self->peer, &self->session, come->bytes, come->length, now_of(self));
     self->answers[code >= 0 && code < CODES ? code : CODES - 1]++;
     if (self->program->heard != NULL)
@@ -335,7 +343,8 @@ static void send(machine *self, uint8_t seat, int32_t code, datagram *made) {
 
 static void send_all(machine *self) {
     datagram made;
-    uint8_t seats = (uint8_t)(with(self)->lasts ? MACHINES : with(self)->machines), seat;
+    uint32_t lasting = with(self)->seats != 0 ? with(self)->seats : MACHINES;
+    uint8_t seats = (uint8_t)(with(self)->lasts ? lasting : with(self)->machines), seat;
     for (seat = 0; seat < seats; seat++) {
         if (seat == self->seat)
             continue;
@@ -375,10 +384,9 @@ static void poll(machine *self) {
 }
 
 /* As docs/C.md has it; or with the poll behind the words. */
-void machine_turn(machine *self) {
+static void take_turn(machine *self) {
     bool has_given = false;
     self->has_rolled = false;
-    hear(self);
     if (self->program->has_heard != NULL)
         self->program->has_heard(self);
     if (!with(self)->polls_late)
@@ -400,6 +408,14 @@ void machine_turn(machine *self) {
         self->program->has_played(self);
     machine_hear_events(self);
     send_all(self);
+}
+
+void machine_turn(machine *self) {
+    hear(self);
+    if (self->comes)
+        self->program->comes(self);
+    else
+        take_turn(self);
     self->turns++;
 }
 

@@ -31,6 +31,8 @@ typedef struct program {
     uint32_t (*word)(machine *self, uint32_t player, uint64_t frame);
     /* Such a word was given for this frame of its session, and what was answered. */
     void (*gave)(machine *self, uint32_t player, uint32_t frame, uint32_t word, int32_t code);
+    /* The turn of a machine that comes, once it has heard what is there for it (`hears`). */
+    void (*comes)(machine *self);
     /* A datagram is about to be heard; and was, with what was answered. */
     void (*hears)(machine *self, const datagram *come);
     void (*heard)(machine *self, const datagram *come, int32_t code);
@@ -64,6 +66,7 @@ struct machine {
     fazgrond_session session;
     fazgrond_peer peer;
     bool is_open, is_running, has_rolled;
+    bool comes; /* it isn't in the match yet: it has neither session nor peer, and its turns are its program's */
     uint64_t draw;
     uint32_t opening; /* how often it was opened */
     uint64_t next_turn, turns;
@@ -128,6 +131,9 @@ uint64_t machine_digest(const machine *self, uint64_t frame);
 
 /* This epoch is its first one, and its game is at the base of it. */
 void machine_begin_in(machine *self, const fazgrond_epoch *epoch);
+
+/* A row of an epoch, which others have settled, is shown to a machine that comes. */
+void machine_view(machine *self, const fazgrond_epoch *epoch, const fazgrond_row *row);
 
 /* Sends what it carries for others, or has carried. */
 void machine_send_more(machine *self);

@@ -39,6 +39,7 @@ typedef struct setup {
     uint32_t waits;        /* one more than the machine that puts nobody out for giving no words; 0: there is none */
     bool carries;          /* machines hand on what others send each other whose line is broken */
     bool lasts;            /* the match goes on in epochs */
+    uint32_t seats;        /* then so many numbers are sent to; 0: all that machines may have */
     bool tells_all;        /* what has come is played before an epoch ends, so that all its rows are told of it afterwards */
     bool polls_late;       /* a peer is polled behind its words in a turn */
     bool lacks_memory;     /* calls may be refused for memory: they are made again */
@@ -93,6 +94,9 @@ void world_open_all(world *self);
 
 /* Opens a machine as this number of an epoch, whose base the game has come to with this state. */
 void world_open_in(world *self, uint32_t who, uint32_t seat, const fazgrond_epoch *epoch, const void *state);
+
+/* A program begins at a machine that isn't in the match: its turns are the program's own until the machine is opened. */
+void world_begin_to_come(world *self, uint32_t who);
 
 /* Opens the session of a machine anew, with its game, beside its peer as it is. */
 void world_open_session(world *self, uint32_t who);
