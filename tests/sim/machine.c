@@ -69,13 +69,14 @@ static bool is_settled(const machine *self, const void *state) {
 }
 
 void machine_see_settled(machine *self) {
-    uint32_t frame, slot;
+    uint32_t frame, slot, rows;
     fazgrond_row row;
     bool is_there = fazgrond_settled_slot(&self->session, &frame, &slot) == FAZGROND_OK && machine_base(self) + frame >= self->settled
         && slot < self->states.slots;
     must(self, is_there, "the settled frame fell");
     if (!is_there)
         return;
+    must(self, fazgrond_settled(&self->session, &rows) == FAZGROND_OK && rows == frame, "another number of rows is settled than frames");
     while (self->settled < machine_base(self) + frame) {
         bool is_row = fazgrond_settled_row(&self->session, (uint32_t)(self->settled - machine_base(self)), &row) == FAZGROND_OK;
         must(self, is_row, "a settled row is missing");
@@ -341,11 +342,15 @@ static void send(machine *self, uint8_t seat, int32_t code, datagram *made) {
         world_post(self->world, made);
 }
 
+/* There are so many numbers of machines. */
+static uint8_t seats_of(const machine *self) {
+    uint32_t lasting = with(self)->seats != 0 ? with(self)->seats : MACHINES;
+    return (uint8_t)(with(self)->lasts ? lasting : with(self)->machines);
+}
+
 static void send_all(machine *self) {
     datagram made;
-    uint32_t lasting = with(self)->seats != 0 ? with(self)->seats : MACHINES;
-    uint8_t seats = (uint8_t)(with(self)->lasts ? lasting : with(self)->machines), seat;
-    for (seat = 0; seat < seats; seat++) {
+    for (uint8_t seat = 0; seat < seats_of(self); seat++) {
         if (seat == self->seat)
             continue;
         int32_t code = fazgrond_peer_send(&self->peer, &self->session, seat, now_of(self), made.bytes, FAZGROND_DATAGRAM, &made.length);
@@ -364,7 +369,7 @@ void machine_send_more(machine *self) {
     int32_t code;
     while ((code = fazgrond_peer_send_more(&self->peer, &seat, made.bytes, FAZGROND_DATAGRAM, &made.length)) == FAZGROND_OK) {
         self->more++;
-        must(self, seat < MACHINES && seat != self->seat, "what is carried goes to no other machine");
+        must(self, seat < seats_of(self) && seat != self->seat, "what is carried goes to no other machine");
         send(self, seat, code, &made);
     }
     must(self, code == FAZGROND_NOTHING || with(self)->lacks_memory, "what is carried isn't made");

@@ -249,16 +249,19 @@ void world_open_all(world *self) {
         world_open(self, who);
 }
 
-void world_say_bye(world *self, uint32_t who, uint32_t times) {
+uint32_t world_say_bye(world *self, uint32_t who, uint32_t times) {
+    uint32_t count = 0;
     machine *at = &self->machine[who];
     datagram said = { .from = who };
     for (uint8_t seat = 0; seat < MACHINES; seat++)
         if (fazgrond_peer_bye(&at->peer, seat, FAZGROND_BYE_LEAVES, said.bytes, FAZGROND_DATAGRAM, &said.length) == FAZGROND_OK) {
             said.to = at->places[seat];
+            count++;
             for (uint32_t time = 0; time < times; time++)
                 world_post(self, &said);
         }
     machine_send_more(at);
+    return count;
 }
 
 void world_leave(world *self, uint32_t who) {
