@@ -28,15 +28,30 @@ datagram *datagram_copied(const datagram *sent) {
     return made;
 }
 
+/* Puts a datagram in its place of the heap, in which there is room for it. */
+static void insert(network *self, datagram *one) {
+    size_t at = self->count++;
+    self->way[at] = one;
+    for (; at > 0 && is_before(self->way[at], self->way[(at - 1) / 2]); at = (at - 1) / 2)
+        swap(self, at, (at - 1) / 2);
+}
+
 void network_put(network *self, const datagram *sent, uint64_t due) {
     datagram *made = datagram_copied(sent);
     made->due = due;
     made->order = self->orders++;
     make_room(self);
-    size_t at = self->count++;
-    self->way[at] = made;
-    for (; at > 0 && is_before(self->way[at], self->way[(at - 1) / 2]); at = (at - 1) / 2)
-        swap(self, at, (at - 1) / 2);
+    insert(self, made);
+}
+
+void network_lose(network *self, uint32_t to) {
+    size_t count = self->count;
+    self->count = 0;
+    for (size_t at = 0; at < count; at++)
+        if (self->way[at]->to == to)
+            free(self->way[at]);
+        else
+            insert(self, self->way[at]);
 }
 
 static uint64_t due_of(const conditions *with, uint64_t now, uint32_t late) { return now + with->delay + late * with->step; }

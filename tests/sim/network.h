@@ -39,6 +39,9 @@ void network_send(network *self, const datagram *sent, uint64_t now);
 /* Puts a copy on its way that is neither lost nor comes twice. */
 void network_put(network *self, const datagram *sent, uint64_t due);
 
+/* What is on its way to a machine is lost. */
+void network_lose(network *self, uint32_t to);
+
 /* When the next one comes: UINT64_MAX if none is on its way. */
 uint64_t network_due(const network *self);
 
