@@ -203,6 +203,8 @@ static void go_on(machine *self) {
     }
     if (code == FAZGROND_OK)
         begin_epoch(self, before, frames);
+    else if (code == FAZGROND_INVALID_REQUEST && self->program->is_left_out != NULL)
+        self->program->is_left_out(self);
     else
         must(self, (code == FAZGROND_NOTHING || with(self)->lacks_memory) && frames == UNTOLD, "an epoch can't end");
 }
@@ -233,7 +235,7 @@ static void hear_one(machine *self, const datagram *come) {
         self->program->heard(self, come, code);
 }
 
-static void hear(machine *self) {
+void machine_hear(machine *self) {
     uint32_t most = with(self)->most_heard;
     size_t count = most != 0 && most < self->waiting ? most : self->waiting;
     for (size_t at = 0; at < count; at++) {
@@ -396,7 +398,12 @@ static void take_turn(machine *self) {
         self->program->has_heard(self);
     if (!with(self)->polls_late)
         poll(self);
-    go_on(self);
+    if (!self->comes)
+        go_on(self);
+    if (self->comes) {
+        self->program->comes(self);
+        return;
+    }
     if (self->is_running && self->program->plays != NULL)
         self->program->plays(self);
     hand_over(self);
@@ -416,7 +423,7 @@ static void take_turn(machine *self) {
 }
 
 void machine_turn(machine *self) {
-    hear(self);
+    machine_hear(self);
     if (self->comes)
         self->program->comes(self);
     else

@@ -41,6 +41,8 @@ typedef struct program {
     void (*has_polled)(machine *self);
     /* An epoch has ended, and its jobs are out: they are to be forgotten. */
     void (*ends_jobs)(machine *self);
+    /* The next epoch begins without it. */
+    void (*is_left_out)(machine *self);
     /* The next epoch is there, but for its requests; and wholly, as the frame is shown that was shown before. */
     void (*ends)(machine *self);
     void (*begins)(machine *self);
@@ -103,6 +105,9 @@ struct machine {
     uint32_t answers[CODES]; /* how often the library gave each code to what came */
     uint32_t more;           /* how many datagrams of others it has handed on, or had handed on */
 };
+
+/* Hears what has come. */
+void machine_hear(machine *self);
 
 /* A turn: it hears what has come, plays on, and sends. */
 void machine_turn(machine *self);
