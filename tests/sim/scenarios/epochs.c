@@ -116,43 +116,30 @@ static uint64_t upper_half(uint64_t comers, uint32_t name) {
     return sha256_end(&made) >> 32;
 }
 
-static bool brings_somebody(const fazgrond_mark *mark) {
-    for (uint32_t player = 0; player < FAZGROND_PLAYERS; player++)
-        if (mark->comes[player] != 0)
-            return true;
-    return false;
-}
-
-/* Whether words of one input have other delays than each other after a mark that gives one of them a delay. */
-static bool is_unlike(const fazgrond_mark *mark, const fazgrond_epoch *epoch) {
-    for (uint32_t player = 0; player < FAZGROND_PLAYERS; player++)
-        for (uint32_t other = 0; other < FAZGROND_PLAYERS; other++) {
-            uint32_t one = mark->delays[player], two = mark->delays[other];
-            bool is_given = one != FAZGROND_AS_BEFORE && player / epoch->words == other / epoch->words;
-            if (is_given && one != (two != FAZGROND_AS_BEFORE ? two : epoch->delays[other]))
-                return true;
-        }
-    return false;
+static uint32_t delay_after(const fazgrond_mark *mark, const fazgrond_epoch *epoch, uint32_t player) {
+    return mark->delays[player] != FAZGROND_AS_BEFORE ? mark->delays[player] : epoch->delays[player];
 }
 
 /* Why a mark of a player of a machine that owns it is void in its epoch, by the first fault that it has; FAZGROND_OK if it isn't. */
 static int32_t fault_of(uint32_t me, const fazgrond_mark *mark) {
     const fazgrond_epoch *epoch = epoch_of(me);
     uint64_t comers = the->setup.comers;
-    bool is_long = false, is_others = false;
+    bool is_long = false, is_others = false, is_unlike = false, has_comer = false;
     bool is_good = comers == 0 || mark->ticket >> 32 == upper_half(comers, (uint32_t)mark->ticket);
-    for (uint32_t player = 0; player < FAZGROND_PLAYERS; player++)
-        if (mark->delays[player] != FAZGROND_AS_BEFORE) {
-            is_long |= mark->delays[player] > MOST_DELAY;
-            is_others |= epoch->owners[player] != me;
-        }
+    for (uint32_t player = 0; player < world_players(the); player++) {
+        bool is_given = mark->delays[player] != FAZGROND_AS_BEFORE;
+        is_long |= is_given && mark->delays[player] > MOST_DELAY;
+        is_others |= is_given && epoch->owners[player] != me;
+        is_unlike |= delay_after(mark, epoch, player) != delay_after(mark, epoch, player - player % epoch->words);
+        has_comer |= mark->comes[player] != 0;
+    }
     if (mark->threshold > (world_players(the) <= 4 ? 8u : 15u))
         return FAZGROND_GREAT_THRESHOLD;
     if (is_long || is_others)
         return is_long ? FAZGROND_LONG_DELAY : FAZGROND_OTHERS_DELAY;
-    if (is_unlike(mark, epoch))
+    if (is_unlike)
         return FAZGROND_UNLIKE_DELAYS;
-    return brings_somebody(mark) && !is_good ? FAZGROND_WRONG_TICKET : FAZGROND_OK;
+    return has_comer && !is_good ? FAZGROND_WRONG_TICKET : FAZGROND_OK;
 }
 
 /* Puts a mark on the next word of a player, counted from 0, and remembers it if it is taken. */
@@ -252,25 +239,18 @@ static void guess(uint32_t me, uint32_t player, uint32_t word) {
     IS(job_run(next, &self->states, JOB_REQUESTS), true);
 }
 
-static void is_as_before(machine *self) {
-    fazgrond_epoch epoch;
-    uint32_t frame;
-    OK(fazgrond_frame(&self->session, &frame));
-    IS(frame, self->frame);
-    OK(fazgrond_peer_epoch(&self->peer, &epoch));
-    IS(epoch.id == machine_epoch(self)->id && epoch.base == machine_base(self), true);
-}
-
 /* As long as a job is out the epoch stays, and nothing is changed. The first one is forgotten, and the others are grafted, too late. */
 static void end_jobs(machine *self) {
     own *of = &owns[self->me];
-    uint32_t frames = UNTOLD, added;
+    uint32_t frames = UNTOLD, frame, added;
+    fazgrond_epoch epoch;
     MUST(of->jobs_out > 0);
     for (; of->jobs_out > 0; of->jobs_out--) {
         uint32_t number = of->jobs[of->jobs_out - 1].number;
         IS(fazgrond_peer_go_on(&self->peer, &self->session, &frames), FAZGROND_JOBS_OUT);
-        IS(frames, UNTOLD);
-        is_as_before(self);
+        OK(fazgrond_frame(&self->session, &frame));
+        OK(fazgrond_peer_epoch(&self->peer, &epoch));
+        IS(frames == UNTOLD && frame == self->frame && epoch.id == machine_epoch(self)->id && epoch.base == machine_base(self), true);
         int32_t code = of->jobs_out == 1 ? FAZGROND_DEAD : fazgrond_graft(&self->session, number, &added);
         IS(code == FAZGROND_LATE ? FAZGROND_DEAD : code, FAZGROND_DEAD);
         IS(fazgrond_forget(&self->session, number), of->jobs_out == 1 ? FAZGROND_OK : FAZGROND_NO_JOB);
@@ -288,7 +268,8 @@ static void put_planned(machine *self) {
 /* What comes may be of an epoch that is forgotten, or of who is gone. */
 static void heard(machine *self, const datagram *come, int32_t code) {
     (void)come;
-    if (code != FAZGROND_OK && code != FAZGROND_NOT_SEALED && code != FAZGROND_MACHINE_GONE)
+    bool is_due = code == FAZGROND_OK || code == FAZGROND_NOT_SEALED || code == FAZGROND_MACHINE_GONE;
+    if (!is_due && self->world->wrong == NULL)
         self->world->wrong = "what came is refused";
 }
 
@@ -460,37 +441,40 @@ static void is_no_mark_before(const fazgrond_epoch *epoch, uint64_t end) {
         IS(one->id == epoch->id && is_here(one->machine) && one->frame + 1 < end, false);
 }
 
-/* Who owns what after an epoch: who has left owns nothing, and who comes gets what the mark names. */
-static void owners_after(const fazgrond_epoch *epoch, const fazgrond_row *last, const fazgrond_mark *mark, fazgrond_epoch *next) {
+/* The epoch after one that a mark ends: who has left owns nothing, and who comes gets what the mark names. */
+static fazgrond_epoch epoch_after(const fazgrond_epoch *epoch, const fazgrond_row *last, const fazgrond_mark *mark) {
+    fazgrond_epoch next = *epoch;
     uint32_t newcomer = 0;
-    for (uint32_t player = 0; player < FAZGROND_PLAYERS; player++) {
-        uint32_t owner = epoch->owners[player];
-        next->owners[player] = owner < MOST && has_left(epoch, last, owner) ? FAZGROND_NOBODY : owner;
-    }
-    while (has_player(next, newcomer))
+    next.threshold = mark->threshold != 0 ? mark->threshold : epoch->threshold;
+    for (uint32_t player = 0; player < last->count; player++)
+        if (has_left(epoch, last, epoch->owners[player]))
+            next.owners[player] = FAZGROND_NOBODY;
+    while (has_player(&next, newcomer))
         newcomer++;
-    for (uint32_t player = 0; player < FAZGROND_PLAYERS; player++)
-        if (next->owners[player] == FAZGROND_NOBODY && mark->comes[player] != 0)
-            next->owners[player] = newcomer;
+    for (uint32_t player = 0; player < last->count; player++) {
+        if (next.owners[player] == FAZGROND_NOBODY && mark->comes[player] != 0) {
+            next.owners[player] = newcomer;
+            next.delays[player] = FIRST_DELAY;
+        }
+        next.delays[player] = delay_after(mark, &next, player);
+    }
+    return next;
 }
 
 /* An epoch ends by a mark, and the next one opens as this one did, but for what the mark says and who has left. */
 static void is_next(const fazgrond_epoch *epoch, const fazgrond_epoch *next, const fazgrond_row *last) {
     const made *by = mark_of_end(epoch, next->base - epoch->base, last);
-    fazgrond_epoch due = *epoch;
     is_no_mark_before(epoch, next->base - epoch->base);
     MUST(by != NULL);
-    owners_after(epoch, last, &by->mark, &due);
+    fazgrond_epoch due = epoch_after(epoch, last, &by->mark);
     IS(next->size, due.size);
     IS(next->words, due.words);
-    IS(next->threshold, by->mark.threshold != 0 ? by->mark.threshold : due.threshold);
+    IS(next->threshold, due.threshold);
     for (uint32_t player = 0; player < FAZGROND_PLAYERS; player++) {
-        uint32_t owner = next->owners[player], delay = by->mark.delays[player];
-        IS(owner, due.owners[player]);
-        IS(owner >= FAZGROND_MACHINES || owner < next->machines, true);
-        bool is_as_before = owner == epoch->owners[player] && !has_left(epoch, last, owner);
-        if (owner < FAZGROND_MACHINES)
-            IS(next->delays[player], delay != FAZGROND_AS_BEFORE ? delay : is_as_before ? epoch->delays[player] : FIRST_DELAY);
+        bool is_owned = due.owners[player] < FAZGROND_MACHINES;
+        IS(next->owners[player], due.owners[player]);
+        IS(is_owned && due.owners[player] >= next->machines, false);
+        IS(is_owned ? next->delays[player] : due.delays[player], due.delays[player]);
     }
 }
 
@@ -517,23 +501,11 @@ static void all_agree(void) {
     are_next(self, until);
 }
 
-/* Whether a machine has seen an epoch of this number. Who came later has seen those from then on. */
-static bool has_seen(const machine *self, uint64_t id) {
-    for (uint32_t at = 0; at < self->part_count; at++)
-        if (self->parts[at].epoch.id == id)
-            return true;
-    return false;
-}
-
 /* And they are in the same epoch, which no mark of theirs has ended. */
 static void are_at_one(void) {
     const machine *self = &all[first_here()];
     for (uint32_t me = 0; me < MOST; me++)
-        if (is_here(me)) {
-            IS(epoch_of(me)->id == machine_epoch(self)->id, true);
-            for (uint32_t at = 0; at < all[me].part_count; at++)
-                IS(has_seen(self, all[me].parts[at].epoch.id), true);
-        }
+        IS(is_here(me) && epoch_of(me)->id != machine_epoch(self)->id, false);
     IS(seams_agreed + 1, self->part_count);
     is_no_mark_before(machine_epoch(self), settled_by_all() - machine_base(self) + 1);
 }
@@ -754,7 +726,7 @@ static void stops_near(uint32_t who, uint32_t at) {
  * one lacks words of who has stopped: in the epoch before neither gives words any more, and neither is gone for that. */
 static void stops_near_a_stall(uint32_t drawn, uint32_t at) {
     setup of = setup_for(3);
-    stopping how = { .at = at };
+    stopping how = { .at = (at + drawn) % (2 * AROUND + 1) };
     chance = draws_of(drawn, STREAM);
     how.stopped = below(3);
     how.marker = below(3);
@@ -770,38 +742,30 @@ static void stops_near_a_stall(uint32_t drawn, uint32_t at) {
     stops_so(of, &how);
 }
 
-static void stops_near_a_drawn_stall(uint32_t drawn, uint32_t unused) {
-    (void)unused;
-    stops_near_a_stall(drawn, drawn % (2 * AROUND));
+static void cut_off(uint32_t me, bool is_so) {
+    for (uint32_t other = 0; other < 3; other++)
+        cut(me, other, is_so);
 }
 
 /* An epoch begins in which a player is nobody's, and one of three machines, which puts a mark at once, is alone for so many turns. Another
  * stops then, so that the third one has words of it past that mark. Nobody waits for more of them than there are. */
-static void stops_as_it_begins_in(setup of, uint32_t alone, uint32_t delay) {
+static void stops_as_it_begins(uint32_t alone, uint32_t how) {
+    setup of = setup_for(3);
+    of.stalled_after = how % 2 * SOON;
     of.players = 4;
     of.owners[3] = FAZGROND_NOBODY;
-    delay_all(&of, delay);
+    delay_all(&of, how / 2 * 2);
     open_all(of);
     run(120);
     ends_epoch(1);
     run_to_the_seam(0);
     ends_epoch(0);
-    cut(0, 1, true);
-    cut(0, 2, true);
+    cut_off(0, true);
     network_lose(&the->network, 0);
     run(alone);
     stop(2);
-    cut(0, 1, false);
-    cut(0, 2, false);
+    cut_off(0, false);
     ends_in_epoch(3, 1000);
-}
-
-static void stops_as_it_begins(uint32_t alone, uint32_t delay) { stops_as_it_begins_in(setup_for(3), alone, delay); }
-
-static void stops_as_it_begins_to_stall(uint32_t alone, uint32_t delay) {
-    setup of = setup_for(3);
-    of.stalled_after = SOON;
-    stops_as_it_begins_in(of, alone, delay);
 }
 
 static void is_about(uint32_t got, uint32_t wanted) { IS(got + 2 * TURN >= wanted && got <= wanted + 2 * TURN, true); }
@@ -943,15 +907,14 @@ static void is_unheard_at_a_seam(uint32_t turns, uint32_t machines) {
 }
 
 /* A line breaks in the turns of the seam itself, and heals. */
-static void breaks_at(uint32_t at, uint32_t unused) {
+static void breaks_at(uint32_t at, uint32_t turns) {
     setup of = setup_for(3);
-    (void)unused;
     of.held_turns = at % 4;
     get_going(of);
     for (uint32_t time = 0; time < 120; time++) {
         if (time == AROUND)
             ends_epoch(0);
-        cut(0, 1, time >= at && time < at + 90);
+        cut(0, 1, time >= at && time < at + turns);
         run(1);
     }
     ends_in_epoch(2, 4000);
@@ -1010,8 +973,8 @@ static void stands_at_no_seam(uint32_t delay, uint32_t machines) {
 
 /* ---- Who comes. */
 
-/* Tickets that hashlib of Python has made. */
-static void are_tickets(uint32_t unused, uint32_t none) {
+/* A ticket that hashlib of Python has made. */
+static void is_a_ticket(uint32_t at, uint32_t unused) {
     static const struct {
         uint64_t comers, ticket;
         uint32_t name;
@@ -1023,11 +986,9 @@ static void are_tickets(uint32_t unused, uint32_t none) {
         { UINT64_MAX, 0x4ffad116ffffffff, UINT32_MAX },
         { 5, 0xc4ef8d80ffffffff, UINT32_MAX },
     };
-    (void)unused, (void)none;
-    for (size_t at = 0; at < sizeof known / sizeof *known; at++) {
-        IS(fazgrond_ticket(known[at].comers, known[at].name) == known[at].ticket, true);
-        IS(upper_half(known[at].comers, known[at].name), known[at].ticket >> 32);
-    }
+    (void)unused;
+    IS(fazgrond_ticket(known[at].comers, known[at].name) == known[at].ticket, true);
+    IS(upper_half(known[at].comers, known[at].name), known[at].ticket >> 32);
 }
 
 /* So many machines, and a player whom nobody owns. */
@@ -1048,9 +1009,8 @@ static uint64_t wrong_ticket(uint32_t how) {
 }
 
 /* A mark with a wrong ticket isn't put: nobody stands still or leaves for it, and the epoch ends by another one's mark. */
-static void has_wrong_ticket(uint32_t how, uint32_t unused) {
-    uint32_t machines = 2 + how % 2, marker = how % machines, other = (how + 1) % machines;
-    (void)unused;
+static void has_wrong_ticket(uint32_t how, uint32_t machines) {
+    uint32_t marker = how % machines, other = (how + 1) % machines;
     get_going(one_is_free(machines));
     IS(put(marker, marker, mark_of_who_comes(machines, wrong_ticket(how))), FAZGROND_WRONG_TICKET);
     uint64_t settled = settled_by_all();
@@ -1070,9 +1030,13 @@ static void forget_who_left(uint32_t machines) {
 }
 
 /* Who is let in and never comes has left once the time of silence has passed twice since the seam, or ten seconds if there is none: who
- * brings it may itself be kept so long in the epoch before. Some of the machines may put it out sooner: the match goes on all the same. */
-static void never_comes_in(setup of, uint32_t put_out_by) {
-    uint32_t patience = (of.silent_after > 0 ? 2 * of.silent_after : 10000) / TURN;
+ * brings it may itself be kept so long in the epoch before. Some of the machines may put it out sooner: the match goes on all the same.
+ * That who is stalled is gone sooner makes nothing sooner. */
+static void never_comes(uint32_t silent_after, uint32_t stalled_after) {
+    uint32_t patience = (silent_after > 0 ? 2 * silent_after : 10000) / TURN, put_out_by = silent_after / 1500;
+    setup of = one_is_free(3);
+    of.silent_after = silent_after;
+    of.stalled_after = stalled_after;
     get_going(of);
     forget_who_left(3);
     marks_by(0, mark_of_who_comes(3, ticket_of(6)));
@@ -1092,30 +1056,15 @@ static void never_comes_in(setup of, uint32_t put_out_by) {
         IS(world_told(the, me, FAZGROND_LEFT, 3), 1);
 }
 
-static void never_comes(uint32_t silent_after, uint32_t put_out_by) {
-    setup of = one_is_free(3);
-    of.silent_after = silent_after;
-    never_comes_in(of, put_out_by);
-}
-
-/* It makes nothing sooner that who is stalled is gone sooner. */
-static void never_comes_to_stall(uint32_t silent_after, uint32_t put_out_by) {
-    setup of = one_is_free(3);
-    of.silent_after = silent_after;
-    of.stalled_after = SOON;
-    never_comes_in(of, put_out_by);
-}
-
-/* Whom of the first three a machine knows to have been in the epoch before. */
-static void have_stayed(uint32_t me, uint32_t zero, uint32_t one, uint32_t two) {
-    IS(has_stayed(me, 0), zero);
-    IS(has_stayed(me, 1), one);
-    IS(has_stayed(me, 2), two);
-}
+/* Whom of the first three a machine knows to have been in the epoch before, as bits. */
+static void have_stayed(uint32_t me, uint32_t bits) { IS(has_stayed(me, 0) | has_stayed(me, 1) << 1 | has_stayed(me, 2) << 2, bits); }
 
 /* Who comes gets the lowest machine's number that is free and the player, opens the epoch with the state at its beginning, and
  * plays. */
-static void comes_in(setup of, uint32_t marker, uint32_t late) {
+static void comes(uint32_t late, uint32_t stalled_after) {
+    uint32_t marker = late / 40 % 2;
+    setup of = one_is_free(2);
+    of.stalled_after = stalled_after;
     of.comers *= late == 0; /* or whoever has any ticket */
     of.silent_after = 3000;
     get_going(of);
@@ -1126,24 +1075,15 @@ static void comes_in(setup of, uint32_t marker, uint32_t late) {
     IS(epoch_of(0)->owners[2], 2);
     IS(epoch_of(0)->machines >= 3, true);
     open_beside(2, 0);
-    have_stayed(0, 1, 1, 0);
-    have_stayed(1, 1, 1, 0);
-    have_stayed(2, 0, 0, 0);
+    for (uint32_t me = 0; me < 3; me++)
+        have_stayed(me, me < 2 ? 3 : 0);
     run(150);
     IS(all[2].settled > all[2].from + 40, true);
     marks_by(2, mark_of_delay(2, 1));
     ends_in_epoch(3, 2000);
     IS(epoch_of(0)->delays[2], 1);
     for (uint32_t me = 0; me < 3; me++)
-        have_stayed(me, 1, 1, 1);
-}
-
-static void comes(uint32_t marker, uint32_t late) { comes_in(one_is_free(2), marker, late); }
-
-static void comes_where_some_stall(uint32_t marker, uint32_t late) {
-    setup of = one_is_free(2);
-    of.stalled_after = SOON;
-    comes_in(of, marker, late);
+        have_stayed(me, 7);
 }
 
 /* Who comes is heard, and gives no words: that is told of it. It is put out once who might have kept it from beginning would be gone, and
@@ -1171,9 +1111,7 @@ static void comes_mute(uint32_t marker, uint32_t late) {
 }
 
 /* One of three stops, and whoever comes gets its player and its number: it hasn't stayed. */
-static void comes_in_place(uint32_t stopped, uint32_t unused) {
-    uint32_t marker = (stopped + 1) % 3;
-    (void)unused;
+static void comes_in_place(uint32_t stopped, uint32_t marker) {
     get_going(setup_for(3));
     stop(stopped);
     run(120);
@@ -1184,13 +1122,13 @@ static void comes_in_place(uint32_t stopped, uint32_t unused) {
     IS(epoch_of(marker)->owners[stopped], stopped);
     machine_close(&all[stopped]);
     open_beside(stopped, marker);
-    have_stayed(marker, stopped != 0, stopped != 1, stopped != 2);
-    have_stayed(stopped, 0, 0, 0);
+    have_stayed(marker, 7 - (1u << stopped));
+    have_stayed(stopped, 0);
     run(150);
     ends_epoch(stopped);
     ends_in_epoch(3, 2000);
     for (uint32_t me = 0; me < 3; me++)
-        have_stayed(me, 1, 1, 1);
+        have_stayed(me, 7);
 }
 
 /* ---- Who leaves, and who means another match. */
@@ -1232,7 +1170,7 @@ static void is_put_out(uint32_t between, uint32_t by) {
     ends_in_epoch(1, 1000);
 }
 
-static const program alone = { .word = word_of, .heard = heard };
+static const program alone_in_it = { .word = word_of, .heard = heard };
 
 /* Two of whom one has other comers, or goes on alone, are told that they mean other matches, and don't begin. */
 static void means_another(uint32_t how, uint32_t one) {
@@ -1244,7 +1182,7 @@ static void means_another(uint32_t how, uint32_t one) {
         { { 7, 8 }, { true, true }, 3 }, { { 7, 0 }, { true, true }, 3 }, { { 7, 7 }, { true, false }, 5 }, { { 0, 0 }, { true, false }, 5 }
     };
     setup of = setup_for(2);
-    of.program = &alone;
+    of.program = &alone_in_it;
     of.carries = true;
     begin(of);
     for (uint32_t me = 0; me < 2; me++) {
@@ -1264,20 +1202,16 @@ static void means_another(uint32_t how, uint32_t one) {
 
 /* ---- Who watches. */
 
-static fazgrond_line_settings line_of(uint32_t host, uint64_t number, uint64_t draw) {
-    fazgrond_line_settings settings = { .number = number, .draw = draw, .host = host, .machines = the->setup.machines };
-    memcpy(settings.owners, the->setup.owners, sizeof settings.owners);
-    return settings;
-}
-
 /* Somebody begins to watch the epoch in which a machine is. */
 static watcher *watch_at(uint32_t host) {
     uint32_t epoch = all[host].part_count - 1;
+    fazgrond_line_settings with = { .number = 1000 + epoch, .draw = 1, .host = host, .machines = the->setup.machines };
     watcher *of = &watching[epoch];
-    fazgrond_line_settings there = line_of(host, 1000 + epoch, 1 + 2 * epoch), here = line_of(host, 1000 + epoch, 2 + 2 * epoch);
     *of = (watcher){ .host = host, .epoch = epoch };
-    OK(fazgrond_line_open(&of->line, &there));
-    OK(fazgrond_viewer_open(&of->viewer, &here));
+    memcpy(with.owners, the->setup.owners, sizeof with.owners);
+    OK(fazgrond_line_open(&of->line, &with));
+    with.draw = 2;
+    OK(fazgrond_viewer_open(&of->viewer, &with));
     return of;
 }
 
@@ -1330,11 +1264,6 @@ static void is_forgotten(watcher *of) {
     IS(watching[1].rows > 40, true);
 }
 
-static void cut_off(uint32_t host, bool is_so) {
-    for (uint32_t other = 0; other < 3; other++)
-        cut(host, other, is_so);
-}
-
 /* So many turns before the mark somebody doesn't hear the host any more, or begins to watch after the seam. The host hears no machine then,
  * so that it doesn't know whether all have come, and goes on telling of the epoch before. */
 static void is_told_past_the_seam(uint32_t unheard, uint32_t host) {
@@ -1365,79 +1294,60 @@ static void is_told_past_the_seam(uint32_t unheard, uint32_t host) {
 
 /* ---- What calls refuse. */
 
-static void refuses_marks(uint32_t me, uint32_t unused) {
-    get_going(setup_for(2));
-    fazgrond_mark mark = mark_of_nothing();
-    (void)unused;
-    for (uint32_t player = 0; player < 256; player++)
-        if (player != me + 1)
-            IS(fazgrond_peer_mark(&all[me].peer, &all[me].session, (uint8_t)player, &mark), FAZGROND_INVALID_PLAYER);
-    mark.size--;
-    IS(put(me, me, mark), FAZGROND_OTHER_VERSION);
-    IS(put(me, me, mark_of_threshold(300)), FAZGROND_INVALID_REQUEST);
-    IS(put(me, me, mark_of_delay(me, 300)), FAZGROND_INVALID_REQUEST);
-    ends_epoch(me);
-    IS(put(me, me, mark_of_nothing()), FAZGROND_MARKED);
-    IS(put(me, me, mark_of_threshold(4)), FAZGROND_MARKED);
-    ends_in_epoch(2, 1000);
-    ends_epoch(me);
-}
-
-/* A session beside which another peer stands is refused, and the match goes on with its own. */
-static void refuses_another_session(uint32_t me, uint32_t other) {
+/* A session beside which another peer stands is refused, too, and the match goes on with its own. */
+static void refuses_marks(uint32_t me, uint32_t player) {
     uint32_t frames = UNTOLD;
     get_going(setup_for(2));
     fazgrond_mark mark = mark_of_nothing();
-    IS(fazgrond_peer_mark(&all[me].peer, &all[other].session, (uint8_t)(me + 1), &mark), FAZGROND_OTHER_SESSION);
+    IS(fazgrond_peer_mark(&all[me].peer, &all[1 - me].session, (uint8_t)(player + 1), &mark), FAZGROND_OTHER_SESSION);
     IS(fazgrond_peer_go_on(&all[me].peer, &all[me].session, &frames), FAZGROND_NOTHING);
     IS(frames, UNTOLD);
+    for (uint32_t other = 0; other < 256; other++)
+        if (other != player + 1)
+            IS(fazgrond_peer_mark(&all[me].peer, &all[me].session, (uint8_t)other, &mark), FAZGROND_INVALID_PLAYER);
+    mark.size--;
+    IS(put(me, player, mark), FAZGROND_OTHER_VERSION);
+    IS(put(me, player, mark_of_threshold(300)), FAZGROND_INVALID_REQUEST);
+    IS(put(me, player, mark_of_delay(player, 300)), FAZGROND_INVALID_REQUEST);
     ends_epoch(me);
+    IS(put(me, player, mark_of_nothing()), FAZGROND_MARKED);
+    IS(put(me, player, mark_of_threshold(4)), FAZGROND_MARKED);
     ends_in_epoch(2, 1000);
+    ends_epoch(me);
 }
 
-/* Without a handle, and with one of another kind. */
+/* Without a handle, and with one of another kind. None is told of the epoch before the first one. */
 static void refuses_closed(uint32_t unused, uint32_t none) {
     uint8_t bytes[FAZGROND_DATAGRAM];
-    fazgrond_peer peer = FAZGROND_CLOSED;
-    fazgrond_session closed = FAZGROND_CLOSED;
-    fazgrond_epoch epoch;
     uint32_t frames = UNTOLD, flag = UNTOLD;
-    size_t length = UNTOLD;
+    size_t room = sizeof bytes, length = UNTOLD;
+    fazgrond_epoch epoch;
+    fazgrond_session closed = FAZGROND_CLOSED;
+    fazgrond_peer gone = FAZGROND_CLOSED;
+    fazgrond_line over = FAZGROND_CLOSED;
     (void)unused, (void)none;
     open_all(setup_for(2));
     fazgrond_mark mark = mark_of_nothing();
-    fazgrond_peer *no_peers[] = { &peer, (fazgrond_peer *)&all[0].session };
-    for (uint32_t at = 0; at < 2; at++) {
+    fazgrond_session *session = &all[0].session;
+    fazgrond_peer *peer = &all[0].peer;
+    fazgrond_line *line = &watch_at(0)->line;
+    fazgrond_peer *no_peers[] = { &gone, (fazgrond_peer *)session, (fazgrond_peer *)line };
+    fazgrond_line *no_lines[] = { &over, (fazgrond_line *)peer, (fazgrond_line *)session, (fazgrond_line *)&watching[0].viewer };
+    for (uint32_t at = 0; at < 3; at++) {
         IS(fazgrond_peer_epoch(no_peers[at], &epoch), FAZGROND_IS_CLOSED);
         IS(fazgrond_peer_has_stayed(no_peers[at], 0, &flag), FAZGROND_IS_CLOSED);
-        IS(fazgrond_peer_mark(no_peers[at], &all[0].session, 1, &mark), FAZGROND_IS_CLOSED);
-        IS(fazgrond_peer_go_on(no_peers[at], &all[0].session, &frames), FAZGROND_IS_CLOSED);
-        IS(fazgrond_peer_send_before(no_peers[at], 1, 0, bytes, sizeof bytes, &length), FAZGROND_IS_CLOSED);
+        IS(fazgrond_peer_mark(no_peers[at], session, 1, &mark), FAZGROND_IS_CLOSED);
+        IS(fazgrond_peer_go_on(no_peers[at], session, &frames), FAZGROND_IS_CLOSED);
+        IS(fazgrond_peer_send_before(no_peers[at], 1, 0, bytes, room, &length), FAZGROND_IS_CLOSED);
+        IS(fazgrond_line_send_before(line, no_peers[at], 0, bytes, room, &length), FAZGROND_IS_CLOSED);
     }
-    IS(fazgrond_peer_mark(&all[0].peer, &closed, 1, &mark), FAZGROND_IS_CLOSED);
-    IS(fazgrond_peer_go_on(&all[0].peer, &closed, &frames), FAZGROND_IS_CLOSED);
-    IS(frames == UNTOLD && flag == UNTOLD && length == UNTOLD, true);
-}
-
-/* The same of a line of the epoch before, which takes two handles; and none is told of before the first seam. */
-static void refuses_closed_lines(uint32_t unused, uint32_t none) {
-    uint8_t bytes[FAZGROND_DATAGRAM];
-    fazgrond_line closed = FAZGROND_CLOSED;
-    fazgrond_peer gone = FAZGROND_CLOSED;
-    size_t length = UNTOLD;
-    (void)unused, (void)none;
-    open_all(setup_for(2));
-    fazgrond_line *line = &watch_at(0)->line;
-    fazgrond_line *no_lines[] = { &closed, (fazgrond_line *)&all[0].peer, (fazgrond_line *)&all[0].session,
-                                  (fazgrond_line *)&watching[0].viewer };
-    fazgrond_peer *no_peers[] = { &gone, (fazgrond_peer *)&all[0].session, (fazgrond_peer *)line };
     for (uint32_t at = 0; at < 4; at++)
-        IS(fazgrond_line_send_before(no_lines[at], &all[0].peer, 0, bytes, sizeof bytes, &length), FAZGROND_IS_CLOSED);
-    for (uint32_t at = 0; at < 3; at++)
-        IS(fazgrond_line_send_before(line, no_peers[at], 0, bytes, sizeof bytes, &length), FAZGROND_IS_CLOSED);
-    IS(fazgrond_line_send_before(line, &all[0].peer, 0, bytes, sizeof bytes, &length), FAZGROND_NOTHING);
-    IS(length, UNTOLD);
-    OK(fazgrond_line_send(line, &all[0].session, 0, bytes, sizeof bytes, &length));
+        IS(fazgrond_line_send_before(no_lines[at], peer, 0, bytes, room, &length), FAZGROND_IS_CLOSED);
+    IS(fazgrond_peer_mark(peer, &closed, 1, &mark), FAZGROND_IS_CLOSED);
+    IS(fazgrond_peer_go_on(peer, &closed, &frames), FAZGROND_IS_CLOSED);
+    IS(fazgrond_line_send_before(line, peer, 0, bytes, room, &length), FAZGROND_NOTHING);
+    IS(frames == UNTOLD && flag == UNTOLD && length == UNTOLD, true);
+    OK(fazgrond_line_send(line, session, 0, bytes, room, &length));
 }
 
 /* The session of the first of two machines is open, whose player has this delay, and no peer. */
@@ -1458,49 +1368,39 @@ static int32_t open_by(const fazgrond_match *match, const fazgrond_epoch *epoch)
     return code;
 }
 
-static int32_t open_in(const fazgrond_epoch *epoch) {
+/* An epoch that isn't this session's, a size that isn't this version's, and inputs whose words have two delays or two owners,
+ * or are more than 8 in all. */
+static void refuses_terms(uint32_t unused, uint32_t none) {
+    static const struct {
+        uint32_t words, threshold, more, delays[2], owners[2];
+        int32_t code;
+    } terms[] = {
+        { 1, 7, 0, { 2, 0 }, { 0, 1 }, FAZGROND_INVALID_REQUEST },
+        { 1, 8, 0, { 1, 0 }, { 0, 1 }, FAZGROND_INVALID_REQUEST },
+        { 1, 8, 0, { 2, 3 }, { 0, 1 }, FAZGROND_OK }, /* another machine's delay */
+        { 1, 8, 1, { 2, 0 }, { 0, 1 }, FAZGROND_OTHER_VERSION },
+        { 1, 8, 0, { 2, 0 }, { 1, 0 }, FAZGROND_INVALID_PLAYER },
+        { 2, 8, 0, { 2, 0 }, { 0, 1 }, FAZGROND_UNLIKE_DELAYS },
+        { 2, 8, 0, { 2, 2 }, { 0, 1 }, FAZGROND_TWO_OWNERS },
+        { 5, 8, 0, { 2, 2 }, { 0, 1 }, FAZGROND_INVALID_MACHINE },
+    };
+    fazgrond_epoch epoch = open_a_session(2);
     fazgrond_match match = world_match(the, 0, 0);
-    return open_by(&match, epoch);
-}
-
-/* An epoch that isn't this session's, and sizes that aren't those of this version. */
-static void refuses_terms(uint32_t delay, uint32_t unused) {
-    fazgrond_epoch epoch = open_a_session(delay), other = epoch;
-    (void)unused;
-    other.threshold = 7;
-    IS(open_in(&other), FAZGROND_INVALID_REQUEST);
-    other = epoch;
-    other.delays[0] = delay - 1;
-    IS(open_in(&other), FAZGROND_INVALID_REQUEST);
-    other = epoch;
-    other.delays[1] = 3; /* another machine's */
-    OK(open_in(&other));
-    other = epoch;
-    other.size++;
-    IS(open_in(&other), FAZGROND_OTHER_VERSION);
-    other = epoch;
-    other.owners[0] = 1;
-    other.owners[1] = 0;
-    IS(open_in(&other), FAZGROND_INVALID_PLAYER);
-}
-
-/* All words of an input have one delay and one owner, and there are 8 words in all. */
-static void refuses_inputs(uint32_t delay, uint32_t unused) {
-    fazgrond_epoch epoch = open_a_session(delay), other = epoch;
-    (void)unused;
-    other.words = 2;
-    IS(open_in(&other), FAZGROND_UNLIKE_DELAYS);
-    other.delays[1] = delay;
-    IS(open_in(&other), FAZGROND_TWO_OWNERS);
-    other = epoch;
-    other.words = 5;
-    other.delays[1] = delay;
-    IS(open_in(&other), FAZGROND_INVALID_MACHINE);
-    other = open_a_session(0);
-    other.words = 3;
+    (void)unused, (void)none;
+    for (size_t at = 0; at < sizeof terms / sizeof *terms; at++) {
+        fazgrond_epoch other = epoch;
+        other.words = terms[at].words;
+        other.threshold = terms[at].threshold;
+        other.size += terms[at].more;
+        memcpy(other.delays, terms[at].delays, sizeof terms[at].delays);
+        memcpy(other.owners, terms[at].owners, sizeof terms[at].owners);
+        IS(open_by(&match, &other), terms[at].code);
+    }
+    epoch = open_a_session(0);
+    epoch.words = 3;
     for (uint32_t at = 0; at < FAZGROND_PLAYERS; at++)
-        other.owners[at] = at / 3 % 2;
-    IS(open_in(&other), FAZGROND_TOO_MANY_WORDS);
+        epoch.owners[at] = at / 3 % 2;
+    IS(open_by(&match, &epoch), FAZGROND_TOO_MANY_WORDS);
 }
 
 /* Sizes, draws and numbers of a match. What of the match the epoch says too isn't read. */
@@ -1550,60 +1450,37 @@ static void has_no_epochs(uint32_t is_carrying, uint32_t unused) {
     IS(frames == UNTOLD && flag == UNTOLD && length == UNTOLD, true);
 }
 
-static bool is_all(const uint8_t *bytes, size_t length, uint8_t byte) {
-    for (size_t at = 0; at < length; at++)
-        if (bytes[at] != byte)
-            return false;
-    return true;
-}
-
-/* What is sent of the epoch before needs room for a datagram; it isn't written if there is less. */
+/* What is sent of the epoch before, also to who watches it, needs room for a datagram; it isn't written if there is less. */
 static void needs_room(uint32_t me, uint32_t other) {
-    uint8_t bytes[FAZGROND_DATAGRAM];
-    size_t length = UNTOLD;
-    memset(bytes, 3, sizeof bytes);
-    get_going(setup_for(2));
-    fazgrond_peer *peer = &all[me].peer;
-    ends_epoch(me);
-    run_to_the_seam(me);
-    uint32_t now = world_clock(the, me);
-    IS(fazgrond_peer_send_before(peer, (uint8_t)other, now, bytes, sizeof bytes - 1, &length), FAZGROND_TOO_SHORT);
-    IS(length, UNTOLD);
-    IS(is_all(bytes, sizeof bytes, 3), true);
-    IS(fazgrond_peer_send_before(peer, (uint8_t)me, now, bytes, sizeof bytes, &length), FAZGROND_NOTHING);
-    IS(fazgrond_peer_send_before(peer, 9, now, bytes, sizeof bytes, &length), FAZGROND_NOTHING);
-    OK(fazgrond_peer_send_before(peer, (uint8_t)other, now, bytes, sizeof bytes, &length));
-    IS(length > 0 && length <= FAZGROND_DATAGRAM, true);
-    run(60);
-    length = UNTOLD; /* the other has come by now */
-    IS(fazgrond_peer_send_before(peer, (uint8_t)other, world_clock(the, me), bytes, sizeof bytes, &length), FAZGROND_NOTHING);
-    IS(length, UNTOLD);
-    run_to_the_end(1000);
-}
-
-/* So does what is sent to who watches the epoch before; and nothing is, once that line has ended. */
-static void needs_room_for_lines(uint32_t me, uint32_t unused) {
-    uint8_t bytes[FAZGROND_DATAGRAM];
-    size_t length = UNTOLD;
-    (void)unused;
-    memset(bytes, 3, sizeof bytes);
+    uint8_t bytes[FAZGROND_DATAGRAM] = { 3, 3, 3 }, before[FAZGROND_DATAGRAM] = { 3, 3, 3 };
+    size_t room = sizeof bytes, length = UNTOLD;
+    uint8_t to = (uint8_t)other;
     get_going(setup_for(2));
     fazgrond_peer *peer = &all[me].peer;
     fazgrond_line *line = &watch_at(me)->line;
-    IS(fazgrond_line_send_before(line, peer, world_clock(the, me), bytes, sizeof bytes - 1, &length), FAZGROND_TOO_SHORT);
+    IS(fazgrond_line_send_before(line, peer, world_clock(the, me), bytes, room - 1, &length), FAZGROND_TOO_SHORT);
     ends_epoch(me);
     run_to_the_seam(me);
     uint32_t now = world_clock(the, me);
+    IS(fazgrond_peer_send_before(peer, to, now, bytes, room - 1, &length), FAZGROND_TOO_SHORT);
     IS(fazgrond_line_send_before(line, peer, now, bytes, 0, &length), FAZGROND_TOO_SHORT);
-    IS(fazgrond_line_send_before(line, peer, now, bytes, sizeof bytes - 1, &length), FAZGROND_TOO_SHORT);
+    IS(fazgrond_line_send_before(line, peer, now, bytes, room - 1, &length), FAZGROND_TOO_SHORT);
+    IS(fazgrond_peer_send_before(peer, (uint8_t)me, now, bytes, room, &length), FAZGROND_NOTHING);
+    IS(fazgrond_peer_send_before(peer, 9, now, bytes, room, &length), FAZGROND_NOTHING);
     IS(length, UNTOLD);
-    IS(is_all(bytes, sizeof bytes, 3), true);
-    OK(fazgrond_line_send_before(line, peer, now, bytes, sizeof bytes, &length));
+    IS(memcmp(bytes, before, sizeof bytes), 0);
+    OK(fazgrond_peer_send_before(peer, to, now, bytes, room, &length));
     IS(length > 0 && length <= FAZGROND_DATAGRAM, true);
     length = UNTOLD;
-    IS(fazgrond_line_bye(line, bytes, sizeof bytes, &length), FAZGROND_NOTHING); /* they haven't heard each other */
-    IS(fazgrond_line_send_before(line, peer, now, bytes, sizeof bytes, &length), FAZGROND_NOTHING);
+    OK(fazgrond_line_send_before(line, peer, now, bytes, room, &length));
+    IS(length > 0 && length <= FAZGROND_DATAGRAM, true);
+    length = UNTOLD;
+    IS(fazgrond_line_bye(line, bytes, room, &length), FAZGROND_NOTHING); /* they haven't heard each other */
+    IS(fazgrond_line_send_before(line, peer, now, bytes, room, &length), FAZGROND_NOTHING);
+    run(60); /* by then the other has come */
+    IS(fazgrond_peer_send_before(peer, to, world_clock(the, me), bytes, room, &length), FAZGROND_NOTHING);
     IS(length, UNTOLD);
+    run_to_the_end(1000);
 }
 
 /* ---- Worlds that are drawn. */
@@ -1640,59 +1517,33 @@ static fazgrond_mark drawn_mark(uint32_t player) {
     return mark;
 }
 
-/* A mark of some player in a turn, which may come too late. */
-static void plan_mark(uint32_t turn) {
-    const setup *with = &the->setup;
-    uint32_t player = below(with->players / with->words) * with->words;
-    MUST(plans_made < PLANS);
-    plans[plans_made++] = (plan){ turn, with->owners[player], player, drawn_mark(player) };
-}
-
-/* Some marks, each perhaps with another one at nearly the same time. */
+/* Some marks of some players in turns, each perhaps with another one at nearly the same time; they may come too late. */
 static void plan_marks(uint32_t count) {
-    for (uint32_t at = 0; at < count; at++) {
-        uint32_t turn = 60 + below(700);
-        plan_mark(turn);
-        if (below(4) == 0)
-            plan_mark(turn + below(4));
+    const setup *with = &the->setup;
+    uint32_t turn = 0;
+    for (bool is_beside = false; plans_made < count; is_beside = !is_beside && below(4) == 0) {
+        uint32_t player = below(with->players / with->words) * with->words;
+        turn = is_beside ? turn + below(4) : 60 + below(700);
+        count += is_beside;
+        MUST(plans_made < PLANS);
+        plans[plans_made++] = (plan){ turn, with->owners[player], player, drawn_mark(player) };
     }
 }
 
-/* In which turns things go wrong, 0 if never: which machine stops, and which line breaks for how long. */
-typedef struct trouble {
-    uint32_t stops_at, stopped, breaks_at, heals_at, one, other;
-} trouble;
-
-static trouble drawn_trouble(uint32_t machines) {
-    trouble of = { 0 };
-    bool is_stop = machines >= 3 && below(3) == 0;
-    of.stopped = below(machines);
-    of.stops_at = is_stop ? 70 + below(400) : 0;
-    of.one = below(machines);
-    of.other = (of.one + 1 + below(machines - 1)) % machines;
-    bool is_cut_off = machines >= (is_stop ? 4u : 3u) && below(2) == 0;
-    of.breaks_at = is_cut_off ? 60 + below(400) : 0;
-    of.heals_at = of.breaks_at + 20 + below(600);
-    return of;
-}
-
-static void make_trouble(const trouble *of) {
-    if (of->stops_at == the->turn && of->stops_at > 0)
-        stop(of->stopped);
-    if (of->breaks_at == the->turn && of->breaks_at > 0)
-        cut(of->one, of->other, true);
-    if (of->heals_at == the->turn)
-        cut(of->one, of->other, false);
-}
-
+/* One of three or more may stop, and a line break for a while, as long as all reach each other. */
 static void is_drawn(uint32_t drawn, uint32_t unused) {
     (void)unused;
     chance = draws_of(drawn, STREAM);
     open_all(drawn_setup(drawn));
     plan_marks(1 + below(8));
-    trouble what = drawn_trouble(the->setup.machines);
+    uint32_t machines = the->setup.machines, stopped = below(machines), stops_at = 70 + below(400);
+    uint32_t one = below(machines), other = (one + 1 + below(machines - 1)) % machines;
+    uint32_t breaks_at = 60 + below(400), heals_at = breaks_at + 20 + below(600);
+    bool stops = machines >= 3 && below(3) == 0, breaks = machines >= (stops ? 4u : 3u) && below(2) == 0;
     for (uint32_t time = 0; time < 1100; time++) {
-        make_trouble(&what);
+        if (stops && time == stops_at)
+            stop(stopped);
+        cut(one, other, breaks && time >= breaks_at && time < heals_at);
         run(1);
     }
     run_to_the_end(30000);
@@ -1715,19 +1566,14 @@ static void is_long(uint32_t epochs, uint32_t frames) {
 static const scenario scenarios[] = {
     { "marks are refused", refuses_marks, { 0, 0, 0, 0 }, { 0, 0, 0, 0 }, EACH },
     { "closed handles", refuses_closed, { 0, 0, 0, 0 }, { 0, 0, 0, 0 }, EACH },
-    { "closed lines", refuses_closed_lines, { 0, 0, 0, 0 }, { 0, 0, 0, 0 }, EACH },
-    { "openings with other terms are refused", refuses_terms, { 2, 2, 0, 0 }, { 0, 0, 0, 0 }, EACH },
-    { "openings with unlike words of an input are refused", refuses_inputs, { 2, 2, 0, 0 }, { 0, 0, 0, 0 }, EACH },
+    { "openings with other terms are refused", refuses_terms, { 0, 0, 0, 0 }, { 0, 0, 0, 0 }, EACH },
     { "openings of other matches are refused", refuses_matches, { 0, 0, 0, 0 }, { 0, 0, 0, 0 }, EACH },
-    { "another session", refuses_another_session, { 0, 0, 0, 0 }, { 1, 1, 0, 0 }, EACH },
     { "a match without epochs", has_no_epochs, { 0, 0, 0, 0 }, { 0, 0, 0, 0 }, EACH },
     { "a match without epochs that carries", has_no_epochs, { 1, 1, 0, 0 }, { 0, 0, 0, 0 }, EACH },
     { "room for the epoch before", needs_room, { 0, 0, 0, 0 }, { 1, 1, 0, 0 }, EACH },
-    { "room for lines of the epoch before", needs_room_for_lines, { 0, 0, 0, 0 }, { 0, 0, 0, 0 }, EACH },
     { "frames begin anew", begins_anew, { 2, 5, 1, 3 }, { 0, 1, 1, 1 }, FEW },
-    { "three epochs", many, { 3, 3, 0, 0 }, { 3, 3, 0, 0 }, EACH },
-    { "many epochs", many, { 3, 3, 0, 0 }, { 2, 5, 1, 3 }, FEW },
-    { "many epochs", many, { 30, 30, 0, 0 }, { 3, 3, 0, 0 }, FEW },
+    { "three epochs", many, { 3, 3, 0, 0 }, { 2, 5, 1, 3 }, EACH },
+    { "thirty epochs", many, { 30, 30, 0, 0 }, { 3, 3, 0, 0 }, FEW },
     { "jobs are out", waits_for_jobs, { 2, 5, 1, 3 }, { 0, 2, 2, 2 }, FEW },
     { "a delay changes", changes_delay, { 0, MOST_DELAY, 2, 6 }, { 0, MOST_DELAY, 2, 6 }, FEW },
     { "the threshold changes", changes_threshold, { 2, 8, 2, 6 }, { 2, 8, 2, 6 }, FEW },
@@ -1740,29 +1586,24 @@ static const scenario scenarios[] = {
     { "inputs of two words", of_two_words, { 3, 3, 0, 0 }, { 1, 1, 0, 0 }, FEW },
     { "a machine stops near a mark", stops_near, { 0, 8, 1, 1 }, { 0, 2 * AROUND, 1, 9 }, EACH },
     { "a machine stops near a mark and is stalled", stops_near_a_stall, { 1, 10, 1, 8 }, { 0, 2 * AROUND, 1, 1 }, FEW },
-    { "a machine stops near a mark and is stalled", stops_near_a_drawn_stall, { 11, 60, 1, 15 }, { 0, 0, 0, 0 }, DRAWN },
-    { "a machine stops as an epoch begins", stops_as_it_begins, { 0, 2 * AROUND, 1, 8 }, { 0, 4, 2, 4 }, FEW },
-    { "a machine stops as an epoch begins to stall", stops_as_it_begins_to_stall, { 0, 2 * AROUND, 1, 8 }, { 0, 4, 2, 4 }, FEW },
+    { "a machine stops near a mark and is stalled", stops_near_a_stall, { 11, 60, 1, 15 }, { 0, 0, 0, 0 }, DRAWN },
+    { "a machine stops as an epoch begins", stops_as_it_begins, { 0, 2 * AROUND, 1, 4 }, { 0, 5, 1, 5 }, FEW },
     { "a machine holds up a seam", holds_up_a_seam, { 0, 5, 1, 1 }, { 0, 4, 4, 4 }, FEW },
     { "a machine goes on late", goes_on_late, { 0, 2, 1, 1 }, { 0, 2000, 1000, 1000 }, FEW },
-    { "who lacks words keeps the end", keeps_the_end, { 4, 4, 0, 0 }, { 4, 8, 1, 2 }, FEW },
-    { "who lacks words keeps the end", keeps_the_end, { 5, 5, 0, 0 }, { 5, 8, 1, 2 }, ALL },
-    { "who lacks words keeps the end", keeps_the_end, { 6, 6, 0, 0 }, { 6, 8, 1, 2 }, ALL },
-    { "who lacks words keeps the end", keeps_the_end, { 7, 8, 1, 1 }, { 8, 8, 0, 0 }, FEW },
+    { "who lacks words keeps the end", keeps_the_end, { 4, 8, 1, 4 }, { 8, 8, 0, 0 }, FEW },
+    { "who lacks words keeps the end", keeps_the_end, { 4, 6, 1, 0 }, { 6, 7, 1, 0 }, FEW },
+    { "who lacks words keeps the end", keeps_the_end, { 4, 4, 0, 0 }, { 4, 5, 1, 0 }, FEW },
     { "nothing comes from who puts a mark", is_unheard_at_a_seam, { 4, 40, 4, 12 }, { 2, 3, 1, 1 }, FEW },
     { "a line is broken", is_carried, { 0, 2, 1, 1 }, { 0, 3, 1, 0 }, FEW },
-    { "a line breaks at a seam", breaks_at, { 0, 2 * AROUND, 2, 16 }, { 0, 0, 0, 0 }, FEW },
+    { "a line breaks at a seam", breaks_at, { 0, 2 * AROUND, 2, 16 }, { 90, 90, 0, 0 }, FEW },
     { "a line that loses", is_lossy, { 0, 30, 10, 30 }, { 0, 3, 3, 3 }, EACH },
-    { "tickets", are_tickets, { 0, 0, 0, 0 }, { 0, 0, 0, 0 }, FEW },
-    { "a wrong ticket", has_wrong_ticket, { 0, WRONG_TICKETS - 1, 1, 1 }, { 0, 0, 0, 0 }, FEW },
-    { "somebody never comes", never_comes, { 0, 3000, 1500, 1500 }, { 0, 2, 1, 2 }, FEW },
-    { "somebody never comes where some stall", never_comes_to_stall, { 0, 3000, 1500, 1500 }, { 0, 2, 1, 2 }, FEW },
-    /* (in the end after the time of silence, and before twice that) */
-    { "somebody comes", comes, { 0, 1, 1, 1 }, { 0, 280, 40, 140 }, EACH },
-    { "somebody comes where some stall", comes_where_some_stall, { 0, 1, 1, 1 }, { 0, 280, 70, 140 }, FEW },
+    { "tickets", is_a_ticket, { 0, 5, 1, 1 }, { 0, 0, 0, 0 }, FEW },
+    { "a wrong ticket", has_wrong_ticket, { 0, WRONG_TICKETS - 1, 1, 1 }, { 2, 3, 1, 0 }, FEW },
+    { "somebody never comes", never_comes, { 0, 3000, 1500, 1500 }, { 0, SOON, SOON, SOON }, FEW },
+    { "somebody comes", comes, { 0, 280, 40, 140 }, { 0, SOON, SOON, SOON }, EACH },
     { "who comes gives no words", comes_mute, { 0, 1, 1, 1 }, { 0, 20, 20, 20 }, FEW },
-    /* (what the first machine had is what the others are compared with) */
-    { "somebody comes in another's place", comes_in_place, { 1, 2, 1, 1 }, { 0, 0, 0, 0 }, FEW },
+    { "somebody comes in another's place", comes_in_place, { 1, 1, 0, 0 }, { 0, 2, 2, 2 }, FEW },
+    { "somebody comes in another's place", comes_in_place, { 2, 2, 0, 0 }, { 0, 1, 1, 1 }, FEW },
     { "one leaves near a mark", leaves_near, { 0, 13, 1, 1 }, { 1, 2, 1, 1 }, FEW },
     { "one is put out", is_put_out, { 0, 10, 5, 5 }, { 0, 0, 0, 0 }, FEW },
     { "one means another match", means_another, { 0, 3, 1, 1 }, { 0, 1, 1, 1 }, FEW },
