@@ -76,26 +76,20 @@ static bool has_left(const fazgrond_epoch *epoch, const fazgrond_row *last, uint
 
 /* ---- Marks. */
 
-static fazgrond_mark mark_of_nothing(void) {
-    fazgrond_mark mark = { .size = sizeof mark };
-    for (uint32_t player = 0; player < FAZGROND_PLAYERS; player++)
-        mark.delays[player] = FAZGROND_AS_BEFORE;
+/* A mark that gives a player this delay, with all words of its input, and this threshold. */
+static fazgrond_mark mark_of(uint32_t player, uint32_t delay, uint32_t threshold) {
+    fazgrond_mark mark = { .size = sizeof mark, .threshold = threshold };
+    uint32_t words = the->setup.words;
+    for (uint32_t at = 0; at < FAZGROND_PLAYERS; at++)
+        mark.delays[at] = at / words == player / words ? delay : FAZGROND_AS_BEFORE;
     return mark;
 }
 
-/* The delay of a player, with all words of its input. */
-static fazgrond_mark mark_of_delay(uint32_t player, uint32_t delay) {
-    fazgrond_mark mark = mark_of_nothing();
-    for (uint32_t at = 0; at < the->setup.words; at++)
-        mark.delays[player + at] = delay;
-    return mark;
-}
+static fazgrond_mark mark_of_nothing(void) { return mark_of(0, FAZGROND_AS_BEFORE, 0); }
 
-static fazgrond_mark mark_of_threshold(uint32_t threshold) {
-    fazgrond_mark mark = mark_of_nothing();
-    mark.threshold = threshold;
-    return mark;
-}
+static fazgrond_mark mark_of_delay(uint32_t player, uint32_t delay) { return mark_of(player, delay, 0); }
+
+static fazgrond_mark mark_of_threshold(uint32_t threshold) { return mark_of(0, FAZGROND_AS_BEFORE, threshold); }
 
 static fazgrond_mark mark_of_who_comes(uint32_t player, uint64_t ticket) {
     fazgrond_mark mark = mark_of_nothing();
@@ -531,6 +525,7 @@ static void run_to_the_end(uint32_t turns) {
     IS(agreed, the->setup.last_frame);
 }
 
+/* And so many epochs were played. */
 static void ends_in_epoch(uint32_t number, uint32_t turns) {
     run_to_the_end(turns);
     is_in_epoch(number);
@@ -609,9 +604,7 @@ static void two_at_once(uint32_t one, uint32_t other) {
 /* What can't be is no mark, and isn't put: the epoch doesn't end by it, and by another one of the same machine it does. */
 static void is_a_void_mark(uint32_t delay, uint32_t threshold) {
     get_going(setup_for(2));
-    fazgrond_mark mark = mark_of_threshold(threshold);
-    if (delay > 0)
-        mark.delays[0] = delay;
+    fazgrond_mark mark = mark_of(0, delay, threshold);
     IS(put(0, 0, mark), threshold > 8 ? FAZGROND_GREAT_THRESHOLD : FAZGROND_LONG_DELAY);
     run(100);
     all_agree();
@@ -645,19 +638,18 @@ static void many(uint32_t epochs, uint32_t machines) {
     ends_in_epoch(epochs, 10000);
 }
 
-/* A match has more frames than a session has. */
-static void goes_past_the_limit(uint32_t limit, uint32_t times) {
+/* A match has more frames than a session has, in epochs of so many: a session has as many and some more, or as many as it can have. */
+static void goes_past_the_limit(uint32_t epochs, uint32_t frames) {
     setup of = setup_for(2);
-    of.limit = limit;
-    of.last_frame = times * limit;
+    of.limit = frames < 1000 ? frames + 30 : 0;
+    of.last_frame = epochs * frames;
     open_all(of);
-    for (uint32_t epoch = 1; machine_base(&all[0]) + limit <= of.last_frame; epoch++) {
-        run_until(machine_base(&all[0]) + limit - 30, 1000);
-        ends_epoch(epoch % 2);
-        run_until(machine_frame(&all[0]) + 8, 1000);
+    IS(of.last_frame > world_settings(the, 0).limit, true);
+    for (uint32_t at = 1; at < epochs; at++) {
+        run_until((uint64_t)at * frames, 2 * frames);
+        ends_epoch(at % 2);
     }
-    run_to_the_end(1000);
-    IS(all[0].part_count > times, true);
+    ends_in_epoch(epochs, 2 * frames + 100);
 }
 
 /* Inputs of two words, and a machine with two of them. */
@@ -954,12 +946,11 @@ static void stands_at_no_seam(uint32_t delay, uint32_t machines) {
     of.last_frame = 400;
     open_all(of);
     run(120);
-    ends_epoch(0);
-    run(80);
-    is_in_epoch(2);
-    ends_epoch(1);
-    run(80);
-    is_in_epoch(3);
+    for (uint32_t me = 0; me < 2; me++) {
+        ends_epoch(me);
+        run(80);
+        is_in_epoch(me + 2);
+    }
     for (uint32_t me = 0; me < machines; me++)
         for (uint32_t epoch = 1; epoch < 3; epoch++)
             count_around(&all[me], epoch, &refused, &stood);
@@ -974,7 +965,7 @@ static void stands_at_no_seam(uint32_t delay, uint32_t machines) {
 /* ---- Who comes. */
 
 /* A ticket that hashlib of Python has made. */
-static void is_a_ticket(uint32_t at, uint32_t unused) {
+static void is_a_ticket(uint32_t at, uint32_t bits) {
     static const struct {
         uint64_t comers, ticket;
         uint32_t name;
@@ -986,9 +977,8 @@ static void is_a_ticket(uint32_t at, uint32_t unused) {
         { UINT64_MAX, 0x4ffad116ffffffff, UINT32_MAX },
         { 5, 0xc4ef8d80ffffffff, UINT32_MAX },
     };
-    (void)unused;
     IS(fazgrond_ticket(known[at].comers, known[at].name) == known[at].ticket, true);
-    IS(upper_half(known[at].comers, known[at].name), known[at].ticket >> 32);
+    IS(upper_half(known[at].comers, known[at].name), known[at].ticket >> bits);
 }
 
 /* So many machines, and a player whom nobody owns. */
@@ -1253,20 +1243,11 @@ static void watch(watcher *of, uint32_t turns) {
     }
 }
 
-/* Once all have come, nothing is told of the epoch before any more. */
-static void is_forgotten(watcher *of) {
+/* So many turns before the mark somebody doesn't hear the host any more, or begins to watch after the seam. The host hears no machine then,
+ * so that it doesn't know whether all have come, and goes on telling of the epoch before. Once it knows, it tells of that no more. */
+static void is_told_past_the_seam(uint32_t unheard, uint32_t host) {
     uint8_t bytes[FAZGROND_DATAGRAM];
     size_t length = UNTOLD;
-    run(60);
-    IS(tell(of, bytes, &length), FAZGROND_NOTHING);
-    IS(length, UNTOLD);
-    watch(watch_at(of->host), 40);
-    IS(watching[1].rows > 40, true);
-}
-
-/* So many turns before the mark somebody doesn't hear the host any more, or begins to watch after the seam. The host hears no machine then,
- * so that it doesn't know whether all have come, and goes on telling of the epoch before. */
-static void is_told_past_the_seam(uint32_t unheard, uint32_t host) {
     watcher *of = NULL;
     setup all_told = setup_for(3);
     all_told.tells_all = true;
@@ -1288,7 +1269,12 @@ static void is_told_past_the_seam(uint32_t unheard, uint32_t host) {
     watch(of, 20);
     IS(of->rows, epoch_of(host)->base);
     cut_off(host, false);
-    is_forgotten(of);
+    run(60);
+    IS(tell(of, bytes, &length), FAZGROND_NOTHING);
+    IS(length, UNTOLD);
+    of = watch_at(host);
+    watch(of, 40);
+    IS(of->rows > 40, true);
     ends_in_epoch(2, 1000);
 }
 
@@ -1370,7 +1356,7 @@ static int32_t open_by(const fazgrond_match *match, const fazgrond_epoch *epoch)
 
 /* An epoch that isn't this session's, a size that isn't this version's, and inputs whose words have two delays or two owners,
  * or are more than 8 in all. */
-static void refuses_terms(uint32_t unused, uint32_t none) {
+static void refuses_terms(uint32_t delay, uint32_t words) {
     static const struct {
         uint32_t words, threshold, more, delays[2], owners[2];
         int32_t code;
@@ -1384,9 +1370,8 @@ static void refuses_terms(uint32_t unused, uint32_t none) {
         { 2, 8, 0, { 2, 2 }, { 0, 1 }, FAZGROND_TWO_OWNERS },
         { 5, 8, 0, { 2, 2 }, { 0, 1 }, FAZGROND_INVALID_MACHINE },
     };
-    fazgrond_epoch epoch = open_a_session(2);
+    fazgrond_epoch epoch = open_a_session(delay);
     fazgrond_match match = world_match(the, 0, 0);
-    (void)unused, (void)none;
     for (size_t at = 0; at < sizeof terms / sizeof *terms; at++) {
         fazgrond_epoch other = epoch;
         other.words = terms[at].words;
@@ -1397,21 +1382,20 @@ static void refuses_terms(uint32_t unused, uint32_t none) {
         IS(open_by(&match, &other), terms[at].code);
     }
     epoch = open_a_session(0);
-    epoch.words = 3;
+    epoch.words = words;
     for (uint32_t at = 0; at < FAZGROND_PLAYERS; at++)
-        epoch.owners[at] = at / 3 % 2;
+        epoch.owners[at] = at / words % 2;
     IS(open_by(&match, &epoch), FAZGROND_TOO_MANY_WORDS);
 }
 
 /* Sizes, draws and numbers of a match. What of the match the epoch says too isn't read. */
-static void refuses_matches(uint32_t unused, uint32_t none) {
-    fazgrond_epoch epoch = open_a_session(0);
+static void refuses_matches(uint32_t delay, uint32_t machines) {
+    fazgrond_epoch epoch = open_a_session(delay);
     fazgrond_match match = world_match(the, 0, 0), other = match;
-    (void)unused, (void)none;
     other.size--;
     IS(open_by(&other, &epoch), FAZGROND_OTHER_VERSION);
     other = match;
-    other.words = other.machines = 3;
+    other.words = other.machines = machines;
     other.owners[0] = 1;
     other.owners[5] = 0;
     OK(open_by(&other, &epoch));
@@ -1511,10 +1495,8 @@ static setup drawn_setup(uint32_t drawn) {
 
 /* A mark for a player of a machine: it changes nothing, the delay, the threshold or both, or is void. */
 static fazgrond_mark drawn_mark(uint32_t player) {
-    fazgrond_mark mark = below(3) == 0 ? mark_of_nothing() : mark_of_delay(player, below(8) == 0 ? 9 : below(5));
-    if (below(3) == 0)
-        mark.threshold = drawn_threshold(the->setup.players);
-    return mark;
+    uint32_t delay = below(3) == 0 ? FAZGROND_AS_BEFORE : below(8) == 0 ? 9 : below(5);
+    return mark_of(player, delay, below(3) == 0 ? drawn_threshold(the->setup.players) : 0);
 }
 
 /* Some marks of some players in turns, each perhaps with another one at nearly the same time; they may come too late. */
@@ -1531,8 +1513,7 @@ static void plan_marks(uint32_t count) {
 }
 
 /* One of three or more may stop, and a line break for a while, as long as all reach each other. */
-static void is_drawn(uint32_t drawn, uint32_t unused) {
-    (void)unused;
+static void is_drawn(uint32_t drawn, uint32_t turns) {
     chance = draws_of(drawn, STREAM);
     open_all(drawn_setup(drawn));
     plan_marks(1 + below(8));
@@ -1540,7 +1521,7 @@ static void is_drawn(uint32_t drawn, uint32_t unused) {
     uint32_t one = below(machines), other = (one + 1 + below(machines - 1)) % machines;
     uint32_t breaks_at = 60 + below(400), heals_at = breaks_at + 20 + below(600);
     bool stops = machines >= 3 && below(3) == 0, breaks = machines >= (stops ? 4u : 3u) && below(2) == 0;
-    for (uint32_t time = 0; time < 1100; time++) {
+    for (uint32_t time = 0; time < turns; time++) {
         if (stops && time == stops_at)
             stop(stopped);
         cut(one, other, breaks && time >= breaks_at && time < heals_at);
@@ -1549,25 +1530,11 @@ static void is_drawn(uint32_t drawn, uint32_t unused) {
     run_to_the_end(30000);
 }
 
-/* ---- More frames than a session has. */
-
-static void is_long(uint32_t epochs, uint32_t frames) {
-    setup of = setup_for(2);
-    of.last_frame = epochs * frames;
-    open_all(of);
-    IS(of.last_frame > world_settings(the, 0).limit, true);
-    for (uint32_t at = 1; at < epochs; at++) {
-        run_until((uint64_t)at * frames, 2 * frames);
-        ends_epoch(at % 2);
-    }
-    ends_in_epoch(epochs, 2 * frames);
-}
-
 static const scenario scenarios[] = {
     { "marks are refused", refuses_marks, { 0, 0, 0, 0 }, { 0, 0, 0, 0 }, EACH },
     { "closed handles", refuses_closed, { 0, 0, 0, 0 }, { 0, 0, 0, 0 }, EACH },
-    { "openings with other terms are refused", refuses_terms, { 0, 0, 0, 0 }, { 0, 0, 0, 0 }, EACH },
-    { "openings of other matches are refused", refuses_matches, { 0, 0, 0, 0 }, { 0, 0, 0, 0 }, EACH },
+    { "openings with other terms are refused", refuses_terms, { 2, 2, 0, 0 }, { 3, 3, 0, 0 }, EACH },
+    { "openings of other matches are refused", refuses_matches, { 0, 0, 0, 0 }, { 3, 3, 0, 0 }, EACH },
     { "a match without epochs", has_no_epochs, { 0, 0, 0, 0 }, { 0, 0, 0, 0 }, EACH },
     { "a match without epochs that carries", has_no_epochs, { 1, 1, 0, 0 }, { 0, 0, 0, 0 }, EACH },
     { "room for the epoch before", needs_room, { 0, 0, 0, 0 }, { 1, 1, 0, 0 }, EACH },
@@ -1579,9 +1546,9 @@ static const scenario scenarios[] = {
     { "the threshold changes", changes_threshold, { 2, 8, 2, 6 }, { 2, 8, 2, 6 }, FEW },
     { "two marks at once", two_at_once, { 0, 2, 2, 2 }, { 1, 1, 0, 0 }, EACH },
     { "a void delay", is_a_void_mark, { 9, 9, 0, 0 }, { 0, 0, 0, 0 }, FEW },
-    { "a void threshold", is_a_void_mark, { 0, 0, 0, 0 }, { 9, 9, 0, 0 }, FEW },
+    { "a void threshold", is_a_void_mark, { 1, 1, 0, 0 }, { 9, 9, 0, 0 }, FEW },
     { "the delay of another's player", is_anothers_delay, { 0, 0, 0, 0 }, { 1, 1, 0, 0 }, FEW },
-    { "more frames than a session has", goes_past_the_limit, { 100, 100, 0, 0 }, { 5, 5, 0, 0 }, FEW },
+    { "more frames than a session has", goes_past_the_limit, { 7, 7, 0, 0 }, { 70, 70, 0, 0 }, FEW },
     { "inputs of two words", of_two_words, { 0, 0, 0, 0 }, { 2, 2, 0, 0 }, FEW },
     { "inputs of two words", of_two_words, { 3, 3, 0, 0 }, { 1, 1, 0, 0 }, FEW },
     { "a machine stops near a mark", stops_near, { 0, 8, 1, 1 }, { 0, 2 * AROUND, 1, 9 }, EACH },
@@ -1597,7 +1564,7 @@ static const scenario scenarios[] = {
     { "a line is broken", is_carried, { 0, 2, 1, 1 }, { 0, 3, 1, 0 }, FEW },
     { "a line breaks at a seam", breaks_at, { 0, 2 * AROUND, 2, 16 }, { 90, 90, 0, 0 }, FEW },
     { "a line that loses", is_lossy, { 0, 30, 10, 30 }, { 0, 3, 3, 3 }, EACH },
-    { "tickets", is_a_ticket, { 0, 5, 1, 1 }, { 0, 0, 0, 0 }, FEW },
+    { "tickets", is_a_ticket, { 0, 5, 1, 1 }, { 32, 32, 0, 0 }, FEW },
     { "a wrong ticket", has_wrong_ticket, { 0, WRONG_TICKETS - 1, 1, 1 }, { 2, 3, 1, 0 }, FEW },
     { "somebody never comes", never_comes, { 0, 3000, 1500, 1500 }, { 0, SOON, SOON, SOON }, FEW },
     { "somebody comes", comes, { 0, 280, 40, 140 }, { 0, SOON, SOON, SOON }, EACH },
@@ -1610,10 +1577,10 @@ static const scenario scenarios[] = {
     { "who watches is told past the seam", is_told_past_the_seam, { 20, 40, 20, 20 }, { 0, 2, 1, 1 }, EACH },
     { "who begins to watch is told past the seam", is_told_past_the_seam, { 0, 0, 0, 0 }, { 0, 2, 1, 1 }, FEW },
     { "who stands at a seam", stands_at_no_seam, { 1, 6, 1, 3 }, { 2, 3, 1, 1 }, FEW },
-    { "a world that was drawn", is_drawn, { 1, 60, 1, 15 }, { 0, 0, 0, 0 }, DRAWN },
+    { "a world that was drawn", is_drawn, { 1, 60, 1, 15 }, { 1100, 1100, 0, 0 }, DRAWN },
 };
 
-static const scenario long_one = { "three long epochs", is_long, { 3, 3, 0, 0 }, { 400000, 400000, 0, 0 }, ALL };
+static const scenario long_one = { "three long epochs", goes_past_the_limit, { 3, 3, 0, 0 }, { 400000, 400000, 0, 0 }, ALL };
 
 int main(int count, char **words) {
     bool is_of_long = count > 1 && strcmp(words[1], "long") == 0;
