@@ -16,8 +16,8 @@ typedef struct own {
     uint32_t given[FAZGROND_PLAYERS][KEPT], gave[FAZGROND_PLAYERS];
     uint64_t known[FAZGROND_PLAYERS];
     bool was_refused[KEPT], was_taken[KEPT];
-    bool is_out;       /* the others put it out, and it takes its turns all the same */
-    bool is_mute_then; /* it gives no words from its next epoch on */
+    bool is_out;      /* the others put it out, and it takes its turns all the same */
+    bool stalls_next; /* it gives no words from its next epoch on */
     job jobs[2];
     uint32_t jobs_out;
 } own;
@@ -221,7 +221,7 @@ static void waits_for_its_requests(machine *self) {
 static void begins(machine *self) {
     see_who_stayed(self);
     give_again(self);
-    self->is_stalled |= owns[self->me].is_mute_then;
+    self->is_stalled |= owns[self->me].stalls_next;
 }
 
 /* A guess, whose job is run at once, and is out from now on. */
@@ -798,7 +798,7 @@ static void holds_up_a_seam(uint32_t how, uint32_t delay) {
     get_going(of);
     ends_epoch(other);
     all[who].stays_behind = is_behind;
-    owns[who].is_mute_then = !is_behind;
+    owns[who].stalls_next = !is_behind;
     owns[who].is_out = true; /* in a while */
     run_to_the_seam(other);
     run((of.stalled_after + is_behind * 2 * of.silent_after) / TURN - 10);
@@ -912,12 +912,13 @@ static void breaks_at(uint32_t at, uint32_t turns) {
     ends_in_epoch(2, 4000);
 }
 
-/* Seams over a line that loses much, brings datagrams late and not in their order, and with words held back. */
-static void is_lossy(uint32_t kept, uint32_t at_once) {
+/* Seams over a line that loses 30 % or so many less, brings datagrams late and not in their order, and with words held back for 3 turns
+ * or so many less. */
+static void is_lossy(uint32_t kept, uint32_t sooner) {
     setup of = setup_for(3);
     of.loss = 30 - kept;
     of.jitter = 3;
-    of.held_turns = 3 - at_once;
+    of.held_turns = 3 - sooner;
     of.silent_after = 2000;
     open_all(of);
     for (uint32_t me = 0; me < 3; me++) {
@@ -1050,7 +1051,7 @@ static void never_comes(uint32_t silent_after, uint32_t stalled_after) {
 static void have_stayed(uint32_t me, uint32_t bits) { IS(has_stayed(me, 0) | has_stayed(me, 1) << 1 | has_stayed(me, 2) << 2, bits); }
 
 /* Who comes gets the lowest machine's number that is free and the player, opens the epoch with the state at its beginning, and
- * plays. */
+ * plays: also if it comes so many turns late, as long as twice the time of silence hasn't passed. */
 static void comes(uint32_t late, uint32_t stalled_after) {
     uint32_t marker = late / 40 % 2;
     setup of = one_is_free(2);
@@ -1100,7 +1101,8 @@ static void comes_mute(uint32_t marker, uint32_t late) {
     ends_in_epoch(2, 1000);
 }
 
-/* One of three stops, and whoever comes gets its player and its number: it hasn't stayed. */
+/* One of three stops, and whoever comes gets its player and its number: it hasn't stayed. The first one, with whose epochs and rows the
+ * others' are compared, is there from the beginning. */
 static void comes_in_place(uint32_t stopped, uint32_t marker) {
     get_going(setup_for(3));
     stop(stopped);
@@ -1160,7 +1162,7 @@ static void is_put_out(uint32_t between, uint32_t by) {
     ends_in_epoch(1, 1000);
 }
 
-static const program alone_in_it = { .word = word_of, .heard = heard };
+static const program unmatched = { .word = word_of, .heard = heard };
 
 /* Two of whom one has other comers, or goes on alone, are told that they mean other matches, and don't begin. */
 static void means_another(uint32_t how, uint32_t one) {
@@ -1172,7 +1174,7 @@ static void means_another(uint32_t how, uint32_t one) {
         { { 7, 8 }, { true, true }, 3 }, { { 7, 0 }, { true, true }, 3 }, { { 7, 7 }, { true, false }, 5 }, { { 0, 0 }, { true, false }, 5 }
     };
     setup of = setup_for(2);
-    of.program = &alone_in_it;
+    of.program = &unmatched;
     of.carries = true;
     begin(of);
     for (uint32_t me = 0; me < 2; me++) {
@@ -1302,38 +1304,58 @@ static void refuses_marks(uint32_t me, uint32_t player) {
     ends_epoch(me);
 }
 
-/* Without a handle, and with one of another kind. None is told of the epoch before the first one. */
-static void refuses_closed(uint32_t unused, uint32_t none) {
+/* All calls about epochs answer this, and one that puts a mark that; and none writes anything. */
+static void all_answer(fazgrond_peer *peer, fazgrond_line *line, int32_t code, int32_t of_mark) {
     uint8_t bytes[FAZGROND_DATAGRAM];
     uint32_t frames = UNTOLD, flag = UNTOLD;
-    size_t room = sizeof bytes, length = UNTOLD;
-    fazgrond_epoch epoch;
+    size_t length = UNTOLD;
+    fazgrond_epoch epoch = { .id = UNTOLD };
+    fazgrond_mark mark = mark_of_nothing();
+    fazgrond_session *session = &all[0].session;
+    IS(fazgrond_peer_epoch(peer, &epoch), code);
+    IS(fazgrond_peer_has_stayed(peer, 0, &flag), code);
+    IS(fazgrond_peer_mark(peer, session, 1, &mark), of_mark);
+    IS(fazgrond_peer_go_on(peer, session, &frames), code);
+    IS(fazgrond_peer_send_before(peer, 1, 0, bytes, sizeof bytes, &length), code);
+    IS(fazgrond_line_send_before(line, peer, 0, bytes, sizeof bytes, &length), code);
+    IS(epoch.id == UNTOLD && frames == UNTOLD && flag == UNTOLD && length == UNTOLD, true);
+}
+
+/* A match that doesn't go on in epochs takes no marks and has no epoch. */
+static void has_no_epochs(uint32_t is_carrying, uint32_t me) {
+    setup of = setup_for(2);
+    of.lasts = false;
+    of.carries = is_carrying != 0;
+    begin(of);
+    world_open(the, me);
+    is_well(the);
+    all_answer(&all[me].peer, &watch_at(me)->line, FAZGROND_NOTHING, FAZGROND_NO_MARKS);
+}
+
+/* Without a handle, and with one of another kind. Nobody who watches is told of an epoch before the first one. */
+static void refuses_closed(uint32_t unused, uint32_t none) {
+    uint8_t bytes[FAZGROND_DATAGRAM];
+    uint32_t frames = UNTOLD;
+    size_t length = UNTOLD;
     fazgrond_session closed = FAZGROND_CLOSED;
     fazgrond_peer gone = FAZGROND_CLOSED;
     fazgrond_line over = FAZGROND_CLOSED;
     (void)unused, (void)none;
     open_all(setup_for(2));
     fazgrond_mark mark = mark_of_nothing();
-    fazgrond_session *session = &all[0].session;
-    fazgrond_peer *peer = &all[0].peer;
+    machine *self = &all[0];
     fazgrond_line *line = &watch_at(0)->line;
-    fazgrond_peer *no_peers[] = { &gone, (fazgrond_peer *)session, (fazgrond_peer *)line };
-    fazgrond_line *no_lines[] = { &over, (fazgrond_line *)peer, (fazgrond_line *)session, (fazgrond_line *)&watching[0].viewer };
-    for (uint32_t at = 0; at < 3; at++) {
-        IS(fazgrond_peer_epoch(no_peers[at], &epoch), FAZGROND_IS_CLOSED);
-        IS(fazgrond_peer_has_stayed(no_peers[at], 0, &flag), FAZGROND_IS_CLOSED);
-        IS(fazgrond_peer_mark(no_peers[at], session, 1, &mark), FAZGROND_IS_CLOSED);
-        IS(fazgrond_peer_go_on(no_peers[at], session, &frames), FAZGROND_IS_CLOSED);
-        IS(fazgrond_peer_send_before(no_peers[at], 1, 0, bytes, room, &length), FAZGROND_IS_CLOSED);
-        IS(fazgrond_line_send_before(line, no_peers[at], 0, bytes, room, &length), FAZGROND_IS_CLOSED);
-    }
+    void *no_peers[] = { &gone, &self->session, line };
+    void *no_lines[] = { &over, &self->peer, &self->session, &watching[0].viewer };
+    for (uint32_t at = 0; at < 3; at++)
+        all_answer(no_peers[at], line, FAZGROND_IS_CLOSED, FAZGROND_IS_CLOSED);
     for (uint32_t at = 0; at < 4; at++)
-        IS(fazgrond_line_send_before(no_lines[at], peer, 0, bytes, room, &length), FAZGROND_IS_CLOSED);
-    IS(fazgrond_peer_mark(peer, &closed, 1, &mark), FAZGROND_IS_CLOSED);
-    IS(fazgrond_peer_go_on(peer, &closed, &frames), FAZGROND_IS_CLOSED);
-    IS(fazgrond_line_send_before(line, peer, 0, bytes, room, &length), FAZGROND_NOTHING);
-    IS(frames == UNTOLD && flag == UNTOLD && length == UNTOLD, true);
-    OK(fazgrond_line_send(line, session, 0, bytes, room, &length));
+        IS(fazgrond_line_send_before(no_lines[at], &self->peer, 0, bytes, sizeof bytes, &length), FAZGROND_IS_CLOSED);
+    IS(fazgrond_peer_mark(&self->peer, &closed, 1, &mark), FAZGROND_IS_CLOSED);
+    IS(fazgrond_peer_go_on(&self->peer, &closed, &frames), FAZGROND_IS_CLOSED);
+    IS(fazgrond_line_send_before(line, &self->peer, 0, bytes, sizeof bytes, &length), FAZGROND_NOTHING);
+    IS(frames == UNTOLD && length == UNTOLD, true);
+    OK(fazgrond_line_send(line, &self->session, 0, bytes, sizeof bytes, &length));
 }
 
 /* The session of the first of two machines is open, whose player has this delay, and no peer. */
@@ -1409,36 +1431,12 @@ static void refuses_matches(uint32_t delay, uint32_t machines) {
     IS(open_by(&other, &epoch), FAZGROND_NO_NUMBER);
 }
 
-/* A match that doesn't go on in epochs takes no marks and has no epoch. */
-static void has_no_epochs(uint32_t is_carrying, uint32_t unused) {
-    uint8_t bytes[FAZGROND_DATAGRAM];
-    uint32_t frames = UNTOLD, flag = UNTOLD;
-    size_t length = UNTOLD;
-    setup of = setup_for(2);
-    (void)unused;
-    of.lasts = false;
-    of.carries = is_carrying != 0;
-    begin(of);
-    world_open(the, 0);
-    is_well(the);
-    machine *self = &all[0];
-    fazgrond_mark mark = mark_of_nothing();
-    fazgrond_epoch epoch = { .id = UNTOLD };
-    IS(fazgrond_peer_epoch(&self->peer, &epoch), FAZGROND_NOTHING);
-    IS(epoch.id, UNTOLD);
-    IS(fazgrond_peer_has_stayed(&self->peer, 0, &flag), FAZGROND_NOTHING);
-    IS(fazgrond_peer_mark(&self->peer, &self->session, 1, &mark), FAZGROND_NO_MARKS);
-    IS(fazgrond_peer_go_on(&self->peer, &self->session, &frames), FAZGROND_NOTHING);
-    IS(fazgrond_peer_send_before(&self->peer, 1, 0, bytes, sizeof bytes, &length), FAZGROND_NOTHING);
-    IS(fazgrond_line_send_before(&watch_at(0)->line, &self->peer, 0, bytes, sizeof bytes, &length), FAZGROND_NOTHING);
-    IS(frames == UNTOLD && flag == UNTOLD && length == UNTOLD, true);
-}
-
 /* What is sent of the epoch before, also to who watches it, needs room for a datagram; it isn't written if there is less. */
 static void needs_room(uint32_t me, uint32_t other) {
-    uint8_t bytes[FAZGROND_DATAGRAM] = { 3, 3, 3 }, before[FAZGROND_DATAGRAM] = { 3, 3, 3 };
+    uint8_t bytes[FAZGROND_DATAGRAM], before[FAZGROND_DATAGRAM], to = (uint8_t)other;
     size_t room = sizeof bytes, length = UNTOLD;
-    uint8_t to = (uint8_t)other;
+    memset(bytes, 3, sizeof bytes);
+    memcpy(before, bytes, sizeof bytes);
     get_going(setup_for(2));
     fazgrond_peer *peer = &all[me].peer;
     fazgrond_line *line = &watch_at(me)->line;
@@ -1499,16 +1497,21 @@ static fazgrond_mark drawn_mark(uint32_t player) {
     return mark_of(player, delay, below(3) == 0 ? drawn_threshold(the->setup.players) : 0);
 }
 
-/* Some marks of some players in turns, each perhaps with another one at nearly the same time; they may come too late. */
-static void plan_marks(uint32_t count) {
+/* A mark of some player in a turn, which may come too late. */
+static void plan_mark(uint32_t turn) {
     const setup *with = &the->setup;
-    uint32_t turn = 0;
-    for (bool is_beside = false; plans_made < count; is_beside = !is_beside && below(4) == 0) {
-        uint32_t player = below(with->players / with->words) * with->words;
-        turn = is_beside ? turn + below(4) : 60 + below(700);
-        count += is_beside;
-        MUST(plans_made < PLANS);
-        plans[plans_made++] = (plan){ turn, with->owners[player], player, drawn_mark(player) };
+    uint32_t player = below(with->players / with->words) * with->words;
+    MUST(plans_made < PLANS);
+    plans[plans_made++] = (plan){ turn, with->owners[player], player, drawn_mark(player) };
+}
+
+/* Some marks, each perhaps with another one at nearly the same time. */
+static void plan_marks(uint32_t count) {
+    for (; count > 0; count--) {
+        uint32_t turn = 60 + below(700);
+        plan_mark(turn);
+        if (below(4) == 0)
+            plan_mark(turn + below(4));
     }
 }
 
