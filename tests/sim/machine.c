@@ -13,6 +13,8 @@ static void must(const machine *self, bool is_so, const char *what) {
         self->world->wrong = what;
 }
 
+void machine_must(const machine *self, bool is_so, const char *what) { must(self, is_so, what); }
+
 /* A call is taken, or, where memory or slots may lack, refused for that alone. */
 static void must_be_taken(const machine *self, int32_t code, const char *what) {
     bool lacks = code == FAZGROND_NO_MEMORY && (with(self)->slots != 0 || with(self)->lacks_memory);
@@ -80,6 +82,8 @@ void machine_see_settled(machine *self) {
     while (self->settled < machine_base(self) + frame) {
         bool is_row = fazgrond_settled_row(&self->session, (uint32_t)(self->settled - machine_base(self)), &row) == FAZGROND_OK;
         must(self, is_row, "a settled row is missing");
+        if (!is_row)
+            return;
         keep(self, self->part_count - 1, &row);
     }
     must(self, self->states.is_taken[slot] && is_settled(self, states_saved(&self->states, slot)),

@@ -115,6 +115,9 @@ void machine_turn(machine *self);
 /* Something has come for it. The datagram is the machine's from now on. */
 void machine_post(machine *self, datagram *come);
 
+/* What isn't so is wrong with its world. */
+void machine_must(const machine *self, bool is_so, const char *what);
+
 /* Carries out the requests that its session has left, and sees what is settled by now. */
 void machine_carry_out(machine *self);
 void machine_see_settled(machine *self);

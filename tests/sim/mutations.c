@@ -47,10 +47,17 @@ static bool has_two_words(const fazgrond_row *row) { return row->count > 1 && ro
 
 static uint32_t without_lowest(uint32_t bits) { return bits & (bits - 1); }
 
+typedef struct block {
+    bool is_given;
+    void *at;
+} block;
+
+block rattle_alloc(size_t size, size_t align);
+
 static void *volatile leak;
 
-/* Memory that is never given back. */
-static void leak_some(size_t bytes) { leak = calloc(1, bytes); }
+/* Memory of the library that is never given back. */
+static void leak_some(size_t bytes) { leak = rattle_alloc(bytes, 1).at; }
 
 /* ---- What a session asks of the game. */
 

@@ -46,11 +46,6 @@ static uint64_t number_of(uint32_t one, uint32_t other) {
     return 0x1234567890abcdefu + (one < other ? one * 16 + other : other * 16 + one);
 }
 
-static void must(bool is_so, const char *what) {
-    if (!is_so && all->wrong == NULL)
-        all->wrong = what;
-}
-
 /* ---- States in bytes. */
 
 /* Those behind the digest and the frame follow from the digest. */
@@ -68,10 +63,10 @@ static void load(machine *self, const faz_comer *comer, const faz_next *next) {
     if (next->length >= STATE_HEAD)
         memcpy(&digest, next->state, sizeof digest);
     write_state(digest, next->frame);
-    must(next->length == with.size && memcmp(bytes_of_state, next->state, with.size) == 0, "a state comes as another");
+    machine_must(self, next->length == with.size && memcmp(bytes_of_state, next->state, with.size) == 0, "a state comes as another");
     states_begin(&self->states, &digest, next->frame);
     machine_begin_in(self, &comer->table.epoch);
-    must(self->settled == next->frame, "a state comes of another frame than that of its epoch");
+    machine_must(self, self->settled == next->frame, "a state comes of another frame than that of its epoch");
 }
 
 /* ---- The program of a machine that plays: it hosts the match for all that come. */
@@ -98,7 +93,7 @@ static void host(machine *self) {
     bool lies = with.is_lying && self->me == 0 && self->part_count > 1;
     see_places(self);
     write_state(machine_digest(self, machine_base(self)) + lies, machine_base(self));
-    must(faz_hosting_begin(&places[self->me].hosting, bytes_of_state, with.size) == FAZGROND_OK, "an epoch isn't hosted");
+    machine_must(self, faz_hosting_begin(&places[self->me].hosting, bytes_of_state, with.size) == FAZGROND_OK, "an epoch isn't hosted");
 }
 
 static void host_in_turn(machine *self) { faz_hosting_turn(&places[self->me].hosting, clock_of(self)); }
@@ -122,7 +117,8 @@ static void heard(machine *self, const datagram *come, int32_t code) {
 static void is_told(machine *self, const fazgrond_event *event) {
     uint32_t code = event->code;
     places[self->me].is_alone |= code == FAZGROND_MISSING;
-    must(code != FAZGROND_REFUSED && code != FAZGROND_MISMATCH && code != FAZGROND_DROPPED, "who plays is refused, or dropped");
+    machine_must(self, code != FAZGROND_REFUSED && code != FAZGROND_MISMATCH && code != FAZGROND_DROPPED,
+                 "who plays is refused, or dropped");
 }
 
 /* ---- The program of a machine that comes. */
@@ -141,7 +137,7 @@ static void begin_to_play(uint32_t one, uint32_t seat, const fazgrond_epoch *epo
 
 static void come_in(machine *self, const faz_next *next) {
     uint64_t state = machine_digest(self, self->settled);
-    must(next->what == FAZ_IN && self->settled == next->epoch.base, "who comes is in before it has all rows");
+    machine_must(self, next->what == FAZ_IN && self->settled == next->epoch.base, "who comes is in before it has all rows");
     begin_to_play(self->me, next->me, &next->epoch, &state);
 }
 
@@ -154,7 +150,7 @@ static bool do_next(machine *self, faz_comer *comer) {
         machine_view(self, &comer->table.epoch, &next.row);
     else if (next.what != FAZ_NOTHING)
         come_in(self, &next);
-    must(next.what == FAZ_NOTHING || self->settled == next.frame, "who comes is at another frame than it is told");
+    machine_must(self, next.what == FAZ_NOTHING || self->settled == next.frame, "who comes is at another frame than it is told");
     return next.what != FAZ_NOTHING && self->comes;
 }
 
@@ -267,17 +263,15 @@ static terms on_line(uint32_t machines, uint32_t latency, uint32_t loss) {
     return made;
 }
 
-/* What an earlier case had is given back. */
-static void end(void) {
+/* What hosts and comers had in an earlier case is given back. */
+static void stop_all(void) {
     for (uint32_t one = 0; all != NULL && one < PLACES; one++)
         stop(one);
-    if (all != NULL)
-        world_end(all);
 }
 
 /* A match begins, and goes on for so many turns. Players behind the machines are nobody's. */
 static void begin(terms of, uint32_t turns) {
-    end();
+    stop_all();
     of.setup.seed = 1 + of_case.one * 100 + of_case.two;
     for (uint32_t player = 0; player < FAZGROND_PLAYERS; player++) {
         bool is_player = player < of.setup.players;
@@ -698,6 +692,8 @@ int main(int count, char **words) {
     bool says_times = count > 1 && strcmp(words[1], "times") == 0;
     int status = says_times ? scenarios_play(times, 1, 1, words)
                             : scenarios_play(scenarios, sizeof scenarios / sizeof *scenarios, count, words);
-    end();
+    stop_all();
+    if (all != NULL)
+        world_end(all);
     return status;
 }
