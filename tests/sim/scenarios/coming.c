@@ -180,33 +180,36 @@ static faz_seat seat_of(uint32_t one, uint32_t other) {
 
 /* It knows the seats of all other places. */
 static void begin_program(uint32_t one) {
-    faz_hosting *hosting = &places[one].hosting;
-    places[one] = (place){ .begun = all->turn };
-    *hosting = (faz_hosting){ .session = &at[one].session, .peer = &at[one].peer, .send = send_by, .of = &at[one] };
-    hosting->digest = world_match(all, one, one).digest;
-    hosting->random = draws_wide(&all->random);
-    for (uint32_t other = 0; other < PLACES; other++)
-        hosting->seat[other] = seat_of(one, other);
+    place *own = &places[one];
+    *own = (place){ .begun = all->turn };
+    own->hosting = (faz_hosting){ .session = &at[one].session, .peer = &at[one].peer, .send = send_by, .of = &at[one] };
+    own->comer = (faz_comer){ .players = players_of(one), .limit = MOST_STATE, .send = send_by, .of = &at[one] };
+    own->hosting.digest = own->comer.digest = world_match(all, one, one).digest;
+    own->hosting.random = draws_wide(&all->random);
+    own->comer.random = draws_wide(&all->random);
+    own->comer.machines = 31u & ~(1u << one);
+    for (uint32_t other = 0; other < PLACES; other++) {
+        own->hosting.seat[other] = seat_of(one, other);
+        own->comer.numbers[other] = number_of(one, other);
+    }
+    faz_comer_begin(&own->comer);
 }
 
 static void begin_to_come(uint32_t one) {
-    faz_comer *comer = &places[one].comer;
     begin_program(one);
     world_begin_to_come(all, one);
-    *comer = (faz_comer){
-        .machines = 31u & ~(1u << one), .players = players_of(one), .limit = MOST_STATE, .send = send_by, .of = &at[one]
-    };
-    comer->digest = places[one].hosting.digest;
-    comer->random = draws_wide(&all->random);
-    for (uint32_t other = 0; other < PLACES; other++)
-        comer->numbers[other] = number_of(one, other);
-    faz_comer_begin(comer);
 }
 
 static void stop(uint32_t one) {
     faz_hosting_close(&places[one].hosting);
     faz_comer_close(&places[one].comer);
     machine_close(&at[one]);
+}
+
+/* All places before one. */
+static void stop_all(uint32_t before) {
+    for (uint32_t one = 0; one < before; one++)
+        stop(one);
 }
 
 /* What was sent a while ago, half of it with another byte. */
@@ -263,15 +266,10 @@ static terms on_line(uint32_t machines, uint32_t latency, uint32_t loss) {
     return made;
 }
 
-/* What hosts and comers had in an earlier case is given back. */
-static void stop_all(void) {
-    for (uint32_t one = 0; all != NULL && one < PLACES; one++)
-        stop(one);
-}
-
 /* A match begins, and goes on for so many turns. Players behind the machines are nobody's. */
 static void begin(terms of, uint32_t turns) {
-    stop_all();
+    if (all != NULL)
+        stop_all(PLACES);
     of.setup.seed = 1 + of_case.one * 100 + of_case.two;
     for (uint32_t player = 0; player < FAZGROND_PLAYERS; player++) {
         bool is_player = player < of.setup.players;
@@ -304,6 +302,7 @@ static void has_played(uint32_t one, uint64_t since) {
 
 /* All that play agree, play on, and are `count`. */
 static void all_play(uint32_t count) {
+    uint32_t playing = 0;
     uint64_t settled[PLACES];
     for (uint32_t one = 0; one < PLACES; one++)
         settled[one] = at[one].settled;
@@ -311,9 +310,9 @@ static void all_play(uint32_t count) {
     for (uint32_t one = 0; one < PLACES; one++)
         if (plays(one)) {
             has_played(one, settled[one]);
-            count--;
+            playing++;
         }
-    IS(count, 0);
+    IS(playing, count);
 }
 
 /* Its words count: in the last settled row of another place its player isn't gone, and gives words. */
@@ -354,7 +353,7 @@ static uint32_t begin_again(terms of, uint32_t before, uint32_t after) {
     return one;
 }
 
-/* It comes since so many turns. */
+/* Who has come for so many turns. */
 static uint32_t is_coming(uint32_t machines, uint32_t turns) {
     uint32_t one = begin_again(terms_for(machines), 140, 31);
     run(turns);
@@ -369,9 +368,7 @@ static uint32_t come_back(terms of, uint32_t before, uint32_t after) {
 }
 
 static void comes_back(uint32_t machines, uint32_t after) { MUST(come_back(terms_for(machines), 200, after) < 150); }
-
 static void comes_back_late(uint32_t machines, uint32_t after) { MUST(come_back(terms_for(machines), 1500, after) < 150); }
-
 static void comes_back_on_a_bad_line(uint32_t machines, uint32_t loss) { (void)come_back(on_line(machines, 3, loss), 200, 31); }
 
 /* Who came back on a line that loses much is heard, so that it stays, although what comes may not be enough to measure the line by. */
@@ -482,15 +479,10 @@ static void host_stops(uint32_t machines, uint32_t in_the_middle) {
     all_play(machines - 1);
 }
 
-static void stop_all_before(uint32_t one) {
-    for (uint32_t other = 0; other < one; other++)
-        stop(other);
-}
-
 /* All the others stop in the middle: who comes is told that nobody hosts the match, or, if it is in already, that they aren't there. */
 static void all_hosts_stop(uint32_t machines, uint32_t in_the_middle) {
     uint32_t one = is_coming(machines, in_the_middle);
-    stop_all_before(one);
+    stop_all(one);
     run(400);
     MUST(places[one].is_alone || plays(one));
 }
@@ -500,7 +492,7 @@ static void hosts_once_it_plays(uint32_t machines, uint32_t turns) {
     uint32_t one = is_coming(machines, turns);
     while (comes(one))
         run(1);
-    stop_all_before(one);
+    stop_all(one);
     begin_to_come(0);
     run(250);
     MUST(!plays(one) && places[0].is_alone);
@@ -692,8 +684,9 @@ int main(int count, char **words) {
     bool says_times = count > 1 && strcmp(words[1], "times") == 0;
     int status = says_times ? scenarios_play(times, 1, 1, words)
                             : scenarios_play(scenarios, sizeof scenarios / sizeof *scenarios, count, words);
-    stop_all();
-    if (all != NULL)
+    if (all != NULL) {
+        stop_all(PLACES);
         world_end(all);
+    }
     return status;
 }

@@ -61,7 +61,7 @@ static bool keep_some(world *self, datagram *sent) {
     return true;
 }
 
-static void begin(void) {
+static void begin(uint32_t seed) {
     setup with = even;
     with.program = &playing;
     with.machines = with.seats = MATCH_MACHINES;
@@ -70,8 +70,8 @@ static void begin(void) {
     with.input_delay = DELAY;
     with.loss = 3;
     with.tells_all = with.has_pair_numbers = true;
-    with.seed = of_case.one;
-    chance = draws_of(of_case.one, LIES_STREAM);
+    with.seed = seed;
+    chance = draws_of(seed, LIES_STREAM);
     memset(pool, 0, sizeof pool);
     all = world_begin(&with);
     at = all->machine;
@@ -273,9 +273,9 @@ static void count_answers(void) {
 }
 
 /* A match of so many frames; how many bytes of memory it took at most. */
-static size_t play_match(uint64_t frames, bool has_liar) {
+static size_t play_match(uint32_t seed, uint64_t frames, bool has_liar) {
     size_t most = 0;
-    begin();
+    begin(seed);
     for (uint64_t seen = 0, stood = 0; seen < frames && stood < STANDS;) {
         take_turn(has_liar);
         stood = settled_by_all() == seen ? stood + 1 : 0;
@@ -293,15 +293,11 @@ static size_t play_match(uint64_t frames, bool has_liar) {
     return most;
 }
 
-static void without_lies(uint32_t seed, uint32_t frames) {
-    (void)seed;
-    most_without_lies = play_match(frames, false);
-}
+static void without_lies(uint32_t seed, uint32_t frames) { most_without_lies = play_match(seed, frames, false); }
 
 /* It takes no more memory than without. */
 static void has_a_liar(uint32_t seed, uint32_t frames) {
-    (void)seed;
-    MUST(play_match(frames, true) <= most_without_lies + most_without_lies / 20);
+    MUST(play_match(seed, frames, true) <= most_without_lies + most_without_lies / 20);
 }
 
 /* ---- A state in pieces: who takes it is given wrong ones by one who knows the key, and is whole with the right bytes alone. */
@@ -348,18 +344,18 @@ static void give_wrong_one(void) {
     MUST(!is_whole_with(liars_line, made, length));
 }
 
-static void takes_a_state(uint32_t seed, uint32_t none) {
+static void takes_a_state(uint32_t seed, uint32_t rounds) {
     static uint8_t bytes[STATE], out[STATE];
     fazgrond_state_name name;
     bool is_whole = false;
-    (void)seed, (void)none;
+    chance = draws_of(seed, LIES_STREAM);
     for (size_t byte = 0; byte < STATE; byte++)
         bytes[byte] = (uint8_t)below(256);
     OK(fazgrond_giver_open(&giver, 7, 0, bytes, STATE));
     OK(fazgrond_giver_name(&giver, &name));
     OK(fazgrond_taker_open(&taker, &name, STATE));
     size_t before = library_memory.bytes;
-    for (uint32_t round = 0; round < ROUNDS && !is_whole; round++) {
+    for (; rounds > 0 && !is_whole; rounds--) {
         is_whole = is_whole_with_right_ones();
         for (uint32_t count = 0; count < WRONG_ONES && !is_whole; count++)
             give_wrong_one();
@@ -386,7 +382,7 @@ int main(int count, char **words) {
     for (; lies < wanted - wanted / 20 && checks.failed == 0; seed++)
         scenario_play_case(&scenarios[1], seed, frames);
     do
-        scenario_play_case(&scenarios[2], seed, 0);
+        scenario_play_case(&scenarios[2], seed++, ROUNDS);
     while (lies < wanted && checks.failed == 0);
     printf("%u lies;", (unsigned)lies);
     for (int code = 0; code < CODES; code++)
