@@ -312,7 +312,7 @@ static bool give_words(machine *self) {
 static void play(machine *self, bool has_given) {
     fazgrond_reached reached;
     fazgrond_row row;
-    uint32_t has_news = UNTOLD;
+    uint32_t has_news = UNTOLD, steps = self->states.steps;
     int32_t code = FAZGROND_OK;
     fazgrond_has_news(&self->session, &has_news);
     self->has_rolled = has_given || has_news != 0;
@@ -322,6 +322,8 @@ static void play(machine *self, bool has_given) {
         code = fazgrond_synchronize_input(&self->session, &row);
     self->is_short = code == FAZGROND_NO_MEMORY;
     must_be_taken(self, code, "a turn is refused");
+    machine_carry_out(self);
+    must(self, !has_given || code != FAZGROND_OK || self->states.steps - steps == reached.rerun, "other frames are run than it is told");
 }
 
 /* ---- What it tells, and what it sends. */
@@ -417,7 +419,6 @@ static void take_turn(machine *self) {
         poll(self);
     if (self->is_running)
         play(self, has_given);
-    machine_carry_out(self);
     machine_see_settled(self);
     note(self);
     if (self->program->has_played != NULL)

@@ -107,7 +107,7 @@ fazgrond_settings world_settings(const world *self, uint32_t who);
 fazgrond_settings world_settings_in(const world *self, uint32_t seat, const fazgrond_epoch *epoch);
 fazgrond_match world_match(const world *self, uint32_t who, uint32_t seat);
 
-/* The machine says bye to all others, so many times: to how many. And then closes. */
+/* The machine says bye to all others, so many times; how many they are. Or it closes then, too. */
 uint32_t world_say_bye(world *self, uint32_t who, uint32_t times);
 void world_leave(world *self, uint32_t who);
 

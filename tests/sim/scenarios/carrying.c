@@ -100,9 +100,8 @@ static void breaks_for_good(uint32_t held_turns, uint32_t one) {
 }
 
 /* Of four, those of a chain hear each other alone: 0 - 1 - 2 - 3. */
-static void chain(uint32_t held_turns, uint32_t none) {
-    (void)none;
-    setup with = match_of(4, held_turns);
+static void chain(uint32_t held_turns, uint32_t machines) {
+    setup with = match_of(machines, held_turns);
     world *self = begun(&with);
     world_cut(self, 0, 2, true);
     world_cut(self, 0, 3, true);
@@ -149,15 +148,14 @@ static void is_copied(uint32_t every, uint32_t machines) {
 /* ---- Who doesn't carry, and who leaves. */
 
 /* Without anybody who carries the same line puts one out of the two, or tells it that it is cut off: the scenario sees it. */
-static void is_not_carried(uint32_t one, uint32_t none) {
-    (void)none;
-    setup with = match_of(3, 0);
+static void is_not_carried(uint32_t one, uint32_t machines) {
+    setup with = match_of(machines, 0);
     with.carries = false;
     world *self = begun(&with);
     world_cut(self, one, 1, true);
     world_run_turns(self, 200);
     uint32_t told = 0;
-    for (uint32_t who = 0; who < 3; who++) {
+    for (uint32_t who = 0; who < machines; who++) {
         told += gone(self, who);
         IS(self->machine[who].more, 0);
     }
@@ -165,12 +163,11 @@ static void is_not_carried(uint32_t one, uint32_t none) {
     end(self);
 }
 
-/* One of three was opened by fazgrond_peer_open, as a program of an earlier version: it plays on beside two that carry. */
-static void one_does_not(uint32_t which, uint32_t none) {
-    (void)none;
-    setup with = match_of(3, 0);
+/* One was opened by fazgrond_peer_open, as a program of an earlier version: it plays on beside others that carry. */
+static void one_does_not(uint32_t which, uint32_t machines) {
+    setup with = match_of(machines, 0);
     world *self = world_begin(&with);
-    for (uint32_t who = 0; who < 3; who++) {
+    for (uint32_t who = 0; who < machines; who++) {
         self->setup.carries = who != which;
         world_open(self, who);
     }
@@ -180,10 +177,9 @@ static void one_does_not(uint32_t which, uint32_t none) {
 }
 
 /* Who leaves says so to a machine that it can't reach, too. */
-static void leaves(uint32_t one, uint32_t none) {
-    (void)none;
+static void leaves(uint32_t one, uint32_t machines) {
     uint32_t other = 3 - one;
-    setup with = match_of(3, 0);
+    setup with = match_of(machines, 0);
     world *self = begun(&with);
     world_cut(self, 0, one, true);
     world_run_turns(self, 60);
@@ -199,13 +195,12 @@ static void leaves(uint32_t one, uint32_t none) {
 /* ---- Two machines. */
 
 /* Of two, fazgrond_peer_open_carrying opens what fazgrond_peer_open does: each sends the same. */
-static void two_machines(uint32_t none, uint32_t no_more) {
+static void two_machines(uint32_t held_turns, uint32_t machines) {
     static uint8_t bytes[2][FAZGROND_DATAGRAM];
     size_t length[2];
     fazgrond_peer other = FAZGROND_CLOSED;
     fazgrond_session session = FAZGROND_CLOSED;
-    (void)none, (void)no_more;
-    setup with = match_of(2, 0);
+    setup with = match_of(machines, held_turns);
     world *self = opened(&with);
     machine *at = &self->machine[0];
     fazgrond_match match = world_match(self, 0, 0);
@@ -259,12 +254,11 @@ static void refuses_without_room(world *self) {
     MUST((seat == 1 || seat == 2) && length != 77);
 }
 
-static void refuses(uint32_t none, uint32_t no_more) {
+static void refuses(uint32_t held_turns, uint32_t machines) {
     uint8_t bytes[FAZGROND_DATAGRAM], seat = 55;
     size_t length = 77;
     fazgrond_peer closed = FAZGROND_CLOSED;
-    (void)none, (void)no_more;
-    setup with = match_of(3, 0);
+    setup with = match_of(machines, held_turns);
     world *self = opened(&with);
     machine *at = &self->machine[0];
     IS(fazgrond_peer_send_more(&closed, &seat, bytes, sizeof bytes, &length), FAZGROND_IS_CLOSED);
@@ -280,9 +274,8 @@ static void refuses(uint32_t none, uint32_t no_more) {
 /* ---- Memory that is refused. */
 
 /* Each allocation of an opening in turn: then nothing is opened, the handle is what it was, and nothing stays behind. */
-static void opens_without_memory(uint32_t none, uint32_t no_more) {
-    (void)none, (void)no_more;
-    setup with = match_of(3, 0);
+static void opens_without_memory(uint32_t held_turns, uint32_t machines) {
+    setup with = match_of(machines, held_turns);
     world *self = opened(&with);
     fazgrond_match match = world_match(self, 0, 0);
     int32_t code = FAZGROND_NO_MEMORY;
@@ -319,16 +312,16 @@ static void plays_without_memory(uint32_t place, uint32_t held_turns) {
 }
 
 static const scenario scenarios[] = {
-    { "what is refused", refuses, { 0 }, { 0 }, FEW },
+    { "what is refused", refuses, { 0, 2, 2, 0 }, { 3, 3, 1, 1 }, FEW },
     { "a line breaks, and heals", breaks, { 0, 4, 1, 1 }, { 0 }, FEW },
     { "an old play comes again on a broken line", is_copied, { 1, 13, 4, 0 }, { 3, 4, 1, 1 }, FEW },
     { "a line breaks for good", breaks_for_good, { 0, 2, 2, 2 }, { 0, 1, 1, 0 }, FEW },
-    { "a chain of four", chain, { 0, 2, 2, 2 }, { 0 }, FEW },
-    { "nobody carries", is_not_carried, { 0, 2, 2, 0 }, { 0 }, FEW },
-    { "one doesn't carry", one_does_not, { 0, 2, 1, 0 }, { 0 }, FEW },
-    { "a bye is carried", leaves, { 1, 2, 1, 0 }, { 0 }, FEW },
-    { "two machines", two_machines, { 0 }, { 0 }, FEW },
-    { "an opening without memory", opens_without_memory, { 0 }, { 0 }, FEW },
+    { "a chain of four", chain, { 0, 2, 2, 2 }, { 4, 4, 1, 1 }, FEW },
+    { "nobody carries", is_not_carried, { 0, 2, 2, 0 }, { 3, 4, 1, 0 }, FEW },
+    { "one doesn't carry", one_does_not, { 0, 2, 1, 0 }, { 3, 4, 1, 0 }, FEW },
+    { "a bye is carried", leaves, { 1, 2, 1, 0 }, { 3, 3, 1, 1 }, FEW },
+    { "two machines", two_machines, { 0, 2, 2, 0 }, { 2, 2, 1, 1 }, FEW },
+    { "an opening without memory", opens_without_memory, { 0, 2, 2, 0 }, { 3, 4, 1, 0 }, FEW },
     { "a match without memory", plays_without_memory, { 1, PLACES, 1, 12 }, { 0, 2, 2, 2 }, FEW },
 };
 

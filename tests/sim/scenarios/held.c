@@ -10,50 +10,34 @@ typedef struct holding {
     uint32_t turns, is_pressed, late;
 } holding;
 
-typedef struct errand {
-    bool is_out;
-    job job;
-} errand;
-
-/* What a machine keeps: of how many words that wait its last job is; and the job that is done in a turn, by the turn's number. */
+/* What a machine keeps: of how many words that wait its last job is; how many frames it ran again, and how many steps and frames there
+ * were before its turn; and the job that is done in a turn, by the turn's number. */
 typedef struct holder {
     holding how;
-    uint32_t covered;
-    errand errands[LATEST];
+    uint32_t covered, again, steps, frame;
+    job jobs[LATEST];
 } holder;
 
 /* ---- Calls, which aren't refused. */
 
-static uint32_t confirmed(machine *self, uint8_t player) {
-    uint32_t words;
-    OK(fazgrond_confirmed(&self->session, player, &words));
-    return words;
+static uint32_t answer;
+
+static uint32_t confirmed(machine *self, uint8_t player) { return OK(fazgrond_confirmed(&self->session, player, &answer)), answer; }
+
+static uint32_t rerun(machine *self, uint32_t count) {
+    return OK(fazgrond_peer_rerun(&self->peer, &self->session, count, &answer)), answer;
 }
+
+static uint32_t is_pressed(machine *self) { return OK(fazgrond_peer_is_pressed(&self->peer, &self->session, &answer)), answer; }
+
+static uint32_t hand_over_due(machine *self) { return OK(fazgrond_peer_hand_over_due(&self->peer, &self->session, &answer)), answer; }
+
+static void hand_over(machine *self, uint32_t count) { OK(fazgrond_peer_hand_over(&self->peer, &self->session, count)); }
 
 static uint32_t waiting(machine *self) {
     fazgrond_entry entries[FAZGROND_HELD_WORDS];
     return (uint32_t)fazgrond_peer_waiting(&self->peer, entries, FAZGROND_HELD_WORDS);
 }
-
-static uint32_t rerun(machine *self, uint32_t count) {
-    uint32_t frames;
-    OK(fazgrond_peer_rerun(&self->peer, &self->session, count, &frames));
-    return frames;
-}
-
-static uint32_t is_pressed(machine *self) {
-    uint32_t flag;
-    OK(fazgrond_peer_is_pressed(&self->peer, &self->session, &flag));
-    return flag;
-}
-
-static uint32_t hand_over_due(machine *self) {
-    uint32_t handed;
-    OK(fazgrond_peer_hand_over_due(&self->peer, &self->session, &handed));
-    return handed;
-}
-
-static void hand_over(machine *self, uint32_t count) { OK(fazgrond_peer_hand_over(&self->peer, &self->session, count)); }
 
 /* ---- A machine that holds words back, and has a helper. */
 
@@ -63,22 +47,20 @@ static void opens(machine *self, fazgrond_settings *settings, fazgrond_match *ma
     match->held_turns = of->how.turns;
 }
 
-static void heard(machine *self, const datagram *come, int32_t code) {
-    (void)self, (void)come;
-    CHECK(code == FAZGROND_OK || code == FAZGROND_NOT_SEALED);
-}
+/* A button or two of three. */
+static uint32_t buttons(machine *self, uint32_t player, uint64_t frame) { return world_drawn_word(self, player, frame) & 7; }
 
 /* The job whose time has come is carried out, and grafted. */
 static void graft_one(machine *self) {
     uint32_t added;
     holder *of = self->own;
-    errand *due = &of->errands[self->turns % LATEST];
-    if (!due->is_out)
+    job *due = &of->jobs[self->turns % LATEST];
+    if (due->count == 0)
         return;
-    due->is_out = false;
-    MUST(job_run(&due->job, &self->states, JOB_REQUESTS));
-    int32_t code = fazgrond_graft(&self->session, due->job.number, &added);
+    MUST(job_run(due, &self->states, JOB_REQUESTS));
+    int32_t code = fazgrond_graft(&self->session, due->number, &added);
     MUST(code != FAZGROND_PENDING && code != FAZGROND_NO_JOB);
+    due->count = 0;
 }
 
 /* Hands over what would make no frame run again, what has waited for its turns, and all that the session would stand without. */
@@ -94,34 +76,42 @@ static void hands_over(machine *self) {
     hand_over_due(self);
 }
 
+/* Frames that a job has run needn't be: so there may be fewer steps than frames. */
+static void count_again(machine *self, holder *of) {
+    uint32_t steps = self->states.steps - of->steps, frames = self->frame - of->frame;
+    of->again += steps > frames ? steps - frames : 0;
+    of->steps = self->states.steps;
+    of->frame = self->frame;
+}
+
 /* A guess with all words that wait, for the helper. */
 static void guess_all(machine *self) {
     holder *of = self->own;
-    errand *next = &of->errands[(self->turns + of->how.late) % LATEST];
+    count_again(self, of);
+    job *next = &of->jobs[(self->turns + of->how.late) % LATEST];
     uint32_t until = self->frame < FRAMES ? self->frame + 1 : self->frame;
     of->covered = waiting(self);
     if (of->covered == 0)
         return;
-    int32_t code = fazgrond_peer_guess(&self->peer, &self->session, until, &next->job.number);
+    int32_t code = fazgrond_peer_guess(&self->peer, &self->session, until, &next->number);
     MUST(code == FAZGROND_OK || code == FAZGROND_NOTHING);
-    job_take(&next->job, &self->states, &self->session);
-    next->is_out = code == FAZGROND_OK;
+    job_take(next, &self->states, &self->session);
+    MUST((next->count > 0) == (code == FAZGROND_OK));
 }
 
 static const program holding_back = {
-    .opens = opens, .word = world_drawn_word, .heard = heard, .plays = graft_one, .hands_over = hands_over, .has_played = guess_all
+    .opens = opens, .word = buttons, .plays = graft_one, .hands_over = hands_over, .has_played = guess_all
 };
 
 /* A world whose machines hold words back, each in its way. */
 static world *opened(setup with, const holding hows[MACHINES]) {
     static holder holders[MACHINES];
-    with.program = &holding_back;
     with.lasts = false;
     with.limit = with.last_frame = FRAMES;
-    with.held_turns = MOST_TURNS;
     world *self = world_begin(&with);
-    for (uint32_t who = 0; who < MACHINES; who++) {
-        holders[who] = (holder){ .how = hows[who] };
+    memset(holders, 0, with.machines * sizeof *holders);
+    for (uint32_t who = 0; who < with.machines; who++) {
+        holders[who].how = hows[who];
         self->machine[who].own = &holders[who];
     }
     world_open_all(self);
@@ -133,58 +123,36 @@ static void end(world *self) {
     world_end(self);
 }
 
-/* ---- Machines of which the last holds words back, one call after another. */
+/* ---- Machines of which the last holds words back, one call after another: their words are given, and handed over, beside their turns. */
 
-static int32_t pass(world *self, uint32_t from, uint32_t to) {
-    uint8_t bytes[FAZGROND_DATAGRAM];
-    size_t length;
-    machine *one = &self->machine[from], *other = &self->machine[to];
-    OK(fazgrond_peer_send(&one->peer, &one->session, (uint8_t)to, world_clock(self, from), bytes, sizeof bytes, &length));
-    return fazgrond_peer_receive(&other->peer, &other->session, bytes, length, world_clock(self, to));
-}
+static machine *one, *two; /* the last two */
 
-static void say_bye(world *self, uint8_t to) {
-    uint8_t bytes[FAZGROND_DATAGRAM];
-    size_t length;
-    machine *other = &self->machine[to];
-    OK(fazgrond_peer_bye(&self->machine[0].peer, to, FAZGROND_BYE_LEAVES, bytes, sizeof bytes, &length));
-    OK(fazgrond_peer_receive(&other->peer, &other->session, bytes, length, world_clock(self, to)));
-}
+static const program by_hand = { .opens = opens, .word = buttons };
 
-/* What machines tell each other in so many turns; machine `first` on, since those before have left. */
-static void exchange(world *self, uint32_t first, uint32_t turns) {
-    for (; turns > 0; turns--) {
-        for (uint32_t who = first; who < self->setup.machines; who++)
-            for (uint32_t other = first; other < self->setup.machines; other++)
-                if (other != who)
-                    pass(self, who, other);
-        for (uint32_t who = first; who < self->setup.machines; who++)
-            OK(fazgrond_peer_poll(&self->machine[who].peer, &self->machine[who].session, world_clock(self, who)));
-    }
-}
-
-/* The last two machines of a match that has begun; the second of them holds words back for so many turns. */
-static machine *one, *two;
-
-static world *begun(setup with, uint32_t turns) {
-    uint32_t flag;
+/* A match that has begun. In a turn each machine hears what those before it have sent in that turn, and those behind it in the last. */
+static world *begun(setup with, uint32_t threshold, uint32_t turns) {
     holding hows[MACHINES] = { { 0, 0, 0 } };
     hows[with.machines - 1].turns = turns;
+    with.program = &by_hand;
+    with.threshold = threshold;
+    with.delay = 0;
     world *self = opened(with, hows);
     one = &self->machine[with.machines - 2];
     two = &self->machine[with.machines - 1];
-    exchange(self, 0, 8);
-    OK(fazgrond_peer_is_running(&two->peer, &flag));
-    IS(flag, 1);
+    for (uint32_t who = 0; who < with.machines; who++)
+        self->machine[who].is_stalled = true;
+    world_run_turns(self, 8);
+    MUST(one->is_running && two->is_running);
     return self;
 }
 
-/* A machine's players, from this one on, give this word and those after it, and it goes on. */
-static fazgrond_reached give_some(machine *self, uint8_t player, uint32_t word, uint32_t count) {
+/* A machine's players give a word, and it goes on. */
+static fazgrond_reached give(machine *self, uint32_t word) {
     fazgrond_reached reached;
     uint32_t steps = self->states.steps;
-    for (uint32_t at = 0; at < count; at++)
-        OK(fazgrond_add_local_input(&self->session, (uint8_t)(player + at), word + at));
+    for (uint8_t player = 0; player < world_players(self->world); player++)
+        if (world_owner(self->world, player) == self->me)
+            OK(fazgrond_add_local_input(&self->session, player + 1, word));
     OK(fazgrond_advance_frame(&self->session, &reached));
     machine_carry_out(self);
     machine_see_settled(self);
@@ -192,8 +160,7 @@ static fazgrond_reached give_some(machine *self, uint8_t player, uint32_t word, 
     return reached;
 }
 
-static fazgrond_reached give(machine *self, uint8_t player, uint32_t word) { return give_some(self, player, word, 1); }
-
+/* How many words of one machine another hasn't acknowledged. */
 static uint32_t queued(machine *self, uint8_t seat) {
     fazgrond_stats stats;
     OK(fazgrond_peer_stats(&self->peer, seat, &stats));
@@ -223,15 +190,14 @@ static void is_not_asked(machine *self, uint32_t count, uint32_t until) {
 
 /* A word waits for as many turns as the match says, and is acknowledged at once; a second one that comes a turn later is handed over a
  * turn later. */
-static void waits(uint32_t turns, uint32_t none) {
-    (void)none;
-    world *self = begun(even, turns);
-    give(two, 2, 9);
-    give(two, 2, 9);
-    give(one, 1, 3);
-    pass(self, 0, 1);
+static void waits(uint32_t threshold, uint32_t turns) {
+    world *self = begun(even, threshold, turns);
+    give(two, 9);
+    give(two, 9);
+    give(one, 3);
+    world_run_turns(self, 1);
     IS(queued(one, 1), 1);
-    pass(self, 1, 0);
+    world_run_turns(self, 1);
     IS(queued(one, 1), 0);
     IS(confirmed(two, 1), 0);
     is_waiting(two, 1, 1, 0, 3);
@@ -239,8 +205,8 @@ static void waits(uint32_t turns, uint32_t none) {
         IS(hand_over_due(two), 0);
         IS(confirmed(two, 1), 0);
         if (turn == 1)
-            give(one, 1, 4);
-        exchange(self, 0, 1);
+            give(one, 4);
+        world_run_turns(self, 2);
         IS(queued(one, 1), 0);
     }
     IS(hand_over_due(two), 1);
@@ -275,15 +241,14 @@ static void guess_three(machine *self) {
     IS(number, 77);
 }
 
-static void guesses(uint32_t none, uint32_t no_more) {
-    (void)none, (void)no_more;
-    world *self = begun(even, 8);
+static void guesses(uint32_t threshold, uint32_t turns) {
+    world *self = begun(even, threshold, turns);
     is_not_asked(two, 1, 1);
     for (uint32_t at = 0; at < 3; at++) {
-        give(one, 1, 5 + at);
-        give(two, 2, 9);
+        give(one, 5 + at);
+        give(two, 9);
     }
-    exchange(self, 0, 1);
+    world_run_turns(self, 1);
     guess_three(two);
     hand_over(two, 0);
     IS(waiting(two), 3);
@@ -294,25 +259,22 @@ static void guesses(uint32_t none, uint32_t no_more) {
     hand_over(two, 100);
     IS(confirmed(two, 1), 3);
     IS(waiting(two), 0);
-    fazgrond_reached reached = give(two, 2, 9);
+    fazgrond_reached reached = give(two, 9);
     IS(reached.from, 3);
     IS(reached.rerun, 1); /* the frame that is new */
     end(self);
 }
 
 /* What is said of words that wait for a session that would stand without them. */
-static void presses(uint32_t none, uint32_t no_more) {
-    (void)none, (void)no_more;
-    setup with = even;
-    with.threshold = 2;
-    world *self = begun(with, 8);
+static void presses(uint32_t threshold, uint32_t turns) {
+    world *self = begun(even, threshold, turns);
     IS(is_pressed(two), 0);
-    give(one, 1, 3);
-    exchange(self, 0, 1);
+    give(one, 3);
+    world_run_turns(self, 1);
     IS(is_pressed(two), 0);
-    give(two, 2, 9);
+    give(two, 9);
     IS(is_pressed(two), 1);
-    give(two, 2, 9);
+    give(two, 9);
     IS(fazgrond_add_local_input(&two->session, 2, 9), FAZGROND_PREDICTION_THRESHOLD);
     hand_over(two, FAZGROND_HELD_WORDS);
     IS(is_pressed(two), 0); /* none waits */
@@ -321,17 +283,19 @@ static void presses(uint32_t none, uint32_t no_more) {
 }
 
 /* Before a player leaves, the session is given all of its words that wait. */
-static void leaves(uint32_t none, uint32_t no_more) {
-    (void)none, (void)no_more;
+static void leaves(uint32_t threshold, uint32_t turns) {
+    uint8_t bytes[FAZGROND_DATAGRAM];
+    size_t length;
     fazgrond_entry last[2];
     fazgrond_row row;
-    world *self = begun(even, 8);
-    give(one, 1, 3);
-    give(one, 1, 4);
-    exchange(self, 0, 1);
-    say_bye(self, 1);
+    world *self = begun(even, threshold, turns);
+    give(one, 3);
+    give(one, 4);
+    world_run_turns(self, 1);
+    OK(fazgrond_peer_bye(&one->peer, 1, FAZGROND_BYE_LEAVES, bytes, sizeof bytes, &length));
+    OK(fazgrond_peer_receive(&two->peer, &two->session, bytes, length, world_clock(self, 1)));
     is_waiting(two, 2, 1, 1, 4);
-    exchange(self, 1, 1);
+    OK(fazgrond_peer_poll(&two->peer, &two->session, world_clock(self, 1)));
     IS(waiting(two), 0);
     IS(confirmed(two, 1), 2);
     for (size_t at = 0; at < 2; at++)
@@ -340,7 +304,7 @@ static void leaves(uint32_t none, uint32_t no_more) {
     IS(last[0].word, 4);
     IS(last[1].kind, FAZGROND_DISCONNECT);
     for (uint32_t at = 0; at < 3; at++)
-        give(two, 2, 9);
+        give(two, 9);
     OK(fazgrond_settled_row(&two->session, 1, &row));
     IS(row.words[0], 4);
     IS(row.gone, 0);
@@ -350,18 +314,15 @@ static void leaves(uint32_t none, uint32_t no_more) {
 }
 
 /* Once a player has left, the words of those who stay are held back as before. */
-static void stays(uint32_t none, uint32_t no_more) {
-    (void)none, (void)no_more;
+static void stays(uint32_t threshold, uint32_t turns) {
     setup with = even;
     with.machines = 3;
-    world *self = begun(with, 8);
-    say_bye(self, 1);
-    say_bye(self, 2);
-    exchange(self, 1, 8);
-    machine_hear_events(two);
+    world *self = begun(with, threshold, turns);
+    world_leave(self, 0);
+    world_run_turns(self, 8);
     IS(world_told(self, 2, FAZGROND_DISCONNECTED, NOBODY), 1);
-    give(one, 2, 5);
-    exchange(self, 1, 4);
+    give(one, 5);
+    world_run_turns(self, 4);
     IS(confirmed(two, 2), 0);
     is_waiting(two, 1, 2, 0, 5);
     IS(queued(one, 2), 0);
@@ -369,49 +330,48 @@ static void stays(uint32_t none, uint32_t no_more) {
 }
 
 /* If a word comes while 64 wait, these are handed over. Those that wait from then on do so for all their turns. */
-static void overflows(uint32_t none, uint32_t no_more) {
-    enum { MORE = 15 * 7 - FAZGROND_HELD_WORDS };
-    (void)none, (void)no_more;
-    uint32_t there = 0;
+static void overflows(uint32_t threshold, uint32_t turns) {
+    uint32_t there = 0, more = 7 * threshold - FAZGROND_HELD_WORDS;
     setup with = even;
     with.players = 8;
-    with.threshold = 15;
     with.has_owners = true;
     with.owners[7] = 1;
-    world *self = begun(with, 2);
-    give_some(one, 1, 1, 7);
-    exchange(self, 0, 1);
+    world *self = begun(with, threshold, turns);
+    give(one, 1);
+    world_run_turns(self, 1);
     IS(waiting(two), 7);
-    IS(hand_over_due(two), 0);
-    for (uint32_t frame = 1; frame < 15; frame++)
-        give_some(one, 1, 1, 7);
-    exchange(self, 0, 4);
+    for (uint32_t turn = 1; turn < turns; turn++)
+        IS(hand_over_due(two), 0);
+    for (uint32_t frame = 1; frame < threshold; frame++)
+        give(one, 1);
+    world_run_turns(self, 5);
     IS(queued(one, 1), 0);
     for (uint8_t player = 1; player < 8; player++)
         there += confirmed(two, player);
     IS(there, FAZGROND_HELD_WORDS);
-    IS(waiting(two), MORE);
-    IS(hand_over_due(two), 0);
-    IS(hand_over_due(two), MORE);
+    IS(waiting(two), more);
+    for (uint32_t turn = 1; turn < turns; turn++)
+        IS(hand_over_due(two), 0);
+    IS(hand_over_due(two), more);
     end(self);
 }
 
 /* A session that was told the words that wait by somebody else is another one, and nothing is changed. */
-static void is_told_past(uint32_t none, uint32_t no_more) {
-    (void)none, (void)no_more;
+static void is_told_past(uint32_t threshold, uint32_t turns) {
     uint8_t bytes[FAZGROND_DATAGRAM];
-    uint32_t number = 77;
-    size_t length = 77;
-    world *self = begun(even, 8);
-    give(one, 1, 3);
-    exchange(self, 0, 1);
+    uint32_t number;
+    size_t length;
+    world *self = begun(even, threshold, turns);
+    give(one, 3);
+    world_run_turns(self, 1);
     OK(fazgrond_remote_input(&two->session, 1, 0, 3, &number));
     IS(number, 0);
-    IS(pass(self, 0, 1), FAZGROND_OTHER_SESSION);
+    OK(fazgrond_peer_send(&one->peer, &one->session, 1, world_clock(self, 0), bytes, sizeof bytes, &length));
+    IS(fazgrond_peer_receive(&two->peer, &two->session, bytes, length, world_clock(self, 1)), FAZGROND_OTHER_SESSION);
+    length = number = 77;
     IS(fazgrond_peer_poll(&two->peer, &two->session, world_clock(self, 1)), FAZGROND_OTHER_SESSION);
     IS(fazgrond_peer_send(&two->peer, &two->session, 0, 0, bytes, sizeof bytes, &length), FAZGROND_OTHER_SESSION);
     IS(fazgrond_peer_hand_over(&two->peer, &two->session, 1), FAZGROND_OTHER_SESSION);
-    number = 77;
     for (uint32_t turn = 0; turn <= MOST_TURNS; turn++)
         IS(fazgrond_peer_hand_over_due(&two->peer, &two->session, &number), FAZGROND_OTHER_SESSION);
     is_not_asked(two, 1, 1);
@@ -422,12 +382,11 @@ static void is_told_past(uint32_t none, uint32_t no_more) {
 }
 
 /* A peer that holds nothing back: the session is told each word as it comes. */
-static void holds_nothing(uint32_t none, uint32_t no_more) {
-    (void)none, (void)no_more;
-    world *self = begun(even, 0);
-    give(two, 2, 9);
-    give(one, 1, 3);
-    exchange(self, 0, 1);
+static void holds_nothing(uint32_t threshold, uint32_t turns) {
+    world *self = begun(even, threshold, turns);
+    give(two, 9);
+    give(one, 3);
+    world_run_turns(self, 1);
     IS(confirmed(two, 1), 1);
     IS(waiting(two), 0);
     is_not_asked(two, 1, 1);
@@ -448,12 +407,11 @@ static void is_closed(fazgrond_peer *peer, fazgrond_session *session) {
 }
 
 /* Calls of a closed peer, or beside a closed session. */
-static void closed(uint32_t none, uint32_t no_more) {
-    (void)none, (void)no_more;
+static void closed(uint32_t threshold, uint32_t turns) {
     fazgrond_entry entry = { 9, 9, 9, 9 };
     fazgrond_peer peer = FAZGROND_CLOSED;
     fazgrond_session session = FAZGROND_CLOSED;
-    world *self = begun(even, 3);
+    world *self = begun(even, threshold, turns);
     is_closed(&peer, &session);
     is_closed(&peer, &two->session);
     is_closed(&two->peer, &session);
@@ -464,14 +422,11 @@ static void closed(uint32_t none, uint32_t no_more) {
 }
 
 /* Words can be held back for 8 turns at most. */
-static void opens_with(uint32_t turns, uint32_t none) {
-    (void)none;
+static void opens_with(uint32_t threshold, uint32_t turns) {
     fazgrond_peer peer = FAZGROND_CLOSED;
-    fazgrond_match match = fazgrond_match_for(2, 0);
-    IS(match.held_turns, 0);
-    world *self = begun(even, 0);
-    world_open_session(self, 0);
-    match = world_match(self, 0, 0);
+    IS(fazgrond_match_for(2, 0).held_turns, 0);
+    world *self = begun(even, threshold, 0);
+    fazgrond_match match = world_match(self, 0, 0);
     for (match.held_turns = 0; match.held_turns < turns; match.held_turns++) {
         bool is_held = match.held_turns <= MOST_TURNS;
         IS(fazgrond_peer_open(&peer, &one->session, &match), is_held ? FAZGROND_OK : FAZGROND_INVALID_REQUEST);
@@ -492,19 +447,22 @@ static uint32_t play_match(uint32_t seed, uint32_t machines, const holding hows[
     with.loss = 20;
     with.copies = 10;
     with.silent_after = FAZGROND_SILENT_AFTER;
+    with.held_turns = MOST_TURNS;
+    with.program = &holding_back;
     world *self = opened(with, hows);
-    const machine *last = &self->machine[machines - 1];
+    const holder *last = self->machine[machines - 1].own;
     bool is_over = world_play(self, FRAMES, 50 * FRAMES * even.turn / MILLISECOND);
     is_well(self);
     MUST(is_over); /* else the match stands */
     for (uint32_t who = 0; who < machines; who++) {
         MUST(world_is_serial(self, who, FRAMES));
+        for (uint32_t code = 0; code < CODES; code++)
+            MUST(self->machine[who].answers[code] == 0 || code == FAZGROND_OK || code == FAZGROND_NOT_SEALED);
         for (uint32_t code = FAZGROND_LEFT; code <= FAZGROND_STRANGERS; code++)
-            IS(code != FAZGROND_STALLED ? world_told(self, who, code, NOBODY) : 0, 0);
+            MUST(code == FAZGROND_STALLED || world_told(self, who, code, NOBODY) == 0);
     }
-    uint32_t again = last->states.steps - last->frame;
     end(self);
-    return again;
+    return last->again;
 }
 
 /* Nobody holds words back, and there are frames to run again; or the last machine does, with a helper that is done by the next turn; or
@@ -515,22 +473,23 @@ static void matches(uint32_t seed, uint32_t machines) {
     const holding late[MACHINES] = { { turns, 1, 3 }, { 1 + turns / 3, 1, 1 + turns / 2 }, { turns, 1, 5 } };
     holding last[MACHINES] = { { 0, 0, 0 } };
     last[machines - 1] = (holding){ turns > 1 ? turns : 2, 0, 1 };
-    MUST(play_match(seed, machines, nobody) > 10);
+    MUST(play_match(seed, machines, nobody) > FRAMES / 4);
     IS(play_match(seed, machines, last), 0);
     play_match(seed, machines, late);
 }
 
+/* The two numbers are the threshold, and for how many turns words are held back; or the seed, and how many machines there are. */
 static const scenario scenarios[] = {
-    { "a word waits", waits, { 1, MOST_TURNS, 1, 1 }, { 0 }, FEW },
-    { "a guess with all words", guesses, { 0 }, { 0 }, FEW },
-    { "a session that would stand", presses, { 0 }, { 0 }, FEW },
-    { "a player leaves", leaves, { 0 }, { 0 }, FEW },
-    { "others stay", stays, { 0 }, { 0 }, FEW },
-    { "too many words", overflows, { 0 }, { 0 }, FEW },
-    { "a session is told past its peer", is_told_past, { 0 }, { 0 }, FEW },
-    { "nothing is held back", holds_nothing, { 0 }, { 0 }, FEW },
-    { "closed handles", closed, { 0 }, { 0 }, FEW },
-    { "an opening", opens_with, { 300, 300, 0, 0 }, { 0 }, FEW },
+    { "a word waits", waits, { 8, 8, 1, 1 }, { 1, MOST_TURNS, 1, 7 }, FEW },
+    { "a guess with all words", guesses, { 8, 8, 1, 1 }, { 1, MOST_TURNS, 1, 0 }, FEW },
+    { "a session that would stand", presses, { 2, 2, 1, 1 }, { 1, MOST_TURNS, 1, 0 }, FEW },
+    { "a player leaves", leaves, { 8, 8, 1, 1 }, { 1, MOST_TURNS, 1, 0 }, FEW },
+    { "others stay", stays, { 8, 8, 1, 1 }, { 1, MOST_TURNS, 1, 0 }, FEW },
+    { "too many words", overflows, { 10, 15, 1, 5 }, { 2, MOST_TURNS, 1, 0 }, FEW },
+    { "a session is told past its peer", is_told_past, { 8, 8, 1, 1 }, { 1, MOST_TURNS, 1, 0 }, FEW },
+    { "nothing is held back", holds_nothing, { 8, 8, 1, 1 }, { 0, 0, 1, 1 }, FEW },
+    { "closed handles", closed, { 8, 8, 1, 1 }, { 3, 3, 1, 1 }, FEW },
+    { "an opening", opens_with, { 8, 8, 1, 1 }, { 300, 300, 1, 1 }, FEW },
     { "a match on a bad line", matches, { 1, 60, 1, 30 }, { 2, 3, 1, 1 }, DRAWN },
 };
 
