@@ -1,5 +1,5 @@
-// The classes carry as the calls of C do, which tests/sim/scenarios/carrying.c tries: of three machines two don't hear each other
-// for longer than the time of silence, nobody is gone, and all have settled the words of all.
+// The classes carry as the calls of C do, which tests/c/carrying.c tries: of three machines two don't hear each other for longer than the
+// time of silence, nobody is gone, and all have settled the words of all.
 #include <fazgrond.hpp>
 
 namespace {

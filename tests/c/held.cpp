@@ -1,5 +1,5 @@
-// The classes hold words back as the calls of C do, which tests/sim/scenarios/held.c tries: a word waits, a guess with it is carried out,
-// and once it is handed over, no frame is run again.
+// The classes hold words back as the calls of C do, which tests/c/held.c tries: a word waits, a guess with it is carried out, and once it
+// is handed over, no frame is run again.
 #include <fazgrond.hpp>
 
 namespace {

@@ -1,5 +1,5 @@
--- Words are held back as tests/sim/scenarios/held.c tries it: a word waits, a guess with it is run, and once it is handed
--- over, no frame is run again.
+-- Words are held back as tests/c/held.c tries it: a word waits, a guess with it is run, and once it is handed over, no frame is run
+-- again.
 local fazgrond = require "fazgrond"
 local Sum = require "sum"
 

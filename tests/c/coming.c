@@ -2,7 +2,7 @@
  * at: that who comes has the others' states, at each frame; that its words count; that nobody who is there is put out; and how many turns
  * it took. `coming COUNT` draws so many worlds: who stops when, who comes when, on which line; `coming times` says how long coming back
  * takes. */
-#include "../scenario.h"
+#include "../sim/scenario.h"
 #include "faz_rejoin.h"
 
 #define COMERS 0x636f6d657273u
@@ -490,8 +490,9 @@ static void all_hosts_stop(uint32_t machines, uint32_t in_the_middle) {
 /* Of a machine that has come in, and in whose match nobody else is, nobody is told that the match runs. */
 static void hosts_once_it_plays(uint32_t machines, uint32_t turns) {
     uint32_t one = is_coming(machines, turns);
-    while (comes(one))
+    for (uint32_t count = 0; count < 1000 && comes(one); count++)
         run(1);
+    MUST(!comes(one));
     stop_all(one);
     begin_to_come(0);
     run(250);
@@ -580,7 +581,7 @@ static void has_watched(void) {
 static void watches_two_seams(uint32_t apart, uint32_t loss) {
     begin_to_watch(loss, 65536);
     put_mark(0);
-    while (epochs(0) == 0)
+    for (uint32_t count = 0; count < 1000 && epochs(0) == 0; count++)
         run(1);
     run(apart);
     put_mark(0);

@@ -4,9 +4,9 @@
  * rows each machine has settled in which epoch, by which mark an epoch ended, how the next one opened and who has stayed in it, is
  * compared with that of the others, with the words that the players gave, and with what the marks say. `epochs long` plays on past the
  * last frame that a session has. */
-#include "../../../lib/sha256.h"
-#include "../claim.h"
-#include "../scenario.h"
+#include "../../lib/sha256.h"
+#include "../sim/claim.h"
+#include "../sim/scenario.h"
 
 enum { MOST = 5, KEPT = 4096, MARKS = 256, PLANS = 16, TURN = 16, MOST_DELAY = 8, FIRST_DELAY = 2, UNTOLD = 77, STREAM = 1 };
 

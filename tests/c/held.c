@@ -1,6 +1,6 @@
 /* Words that a peer holds back: that they wait, for how long, what hands them over, and that a guess with them leaves nothing to run again.
  * Then matches on a bad line: all machines come to the state of the game that is run once, whoever holds words back. */
-#include "../scenario.h"
+#include "../sim/scenario.h"
 
 enum { MOST_TURNS = 8, LATEST = 6, FRAMES = 200 };
 

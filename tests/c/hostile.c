@@ -5,10 +5,10 @@
  * others settle the same rows, in which the words of each stand in the frames for which it gave them; none of them is gone for
  * another; they play on; no epoch opens but by a mark that may open one; and no more memory is taken than without it. `hostile COUNT
  * [SEED]` sends about so many in all, in place of 20,000. */
-#include "../../../lib/sha256.h"
-#include "../../c/trials/packets.h"
-#include "../memory.h"
-#include "../scenario.h"
+#include "../../lib/sha256.h"
+#include "trials/packets.h"
+#include "../sim/memory.h"
+#include "../sim/scenario.h"
 
 enum { HONEST = 3, LIAR = HONEST, MATCH_MACHINES = HONEST + 1, DELAY = 2, THRESHOLD = 8, POOL = 256, LIES_STREAM = 64 };
 enum { MAP = 3, CARRIED = 4, LABEL = 4, MOST_FRAMES = 3000, LIES_A_TURN = 24, STANDS = 400, FIRST_LIE = 100 };
@@ -254,7 +254,7 @@ static void words_stand(uint32_t who) {
     }
 }
 
-/* A turn, in which a line between two honest machines may break, who then need a third, or the liar; and an honest one may end the epoch. */
+/* A turn, in which a line between two honest machines may break, so that they need a third, or the liar; and one may end the epoch. */
 static void take_turn(bool has_liar) {
     fazgrond_mark mark = fazgrond_mark_for();
     world_cut(all, 0, 1, all->turn / 200 % 2 == 1);

@@ -1,8 +1,8 @@
 /* Machines that carry for each other: what the calls refuse, and matches of three and four whose lines break, both ways or one, with words
  * held back and not, with old plays that come again, and with memory refused at each place. Nobody may be gone, and all have to come to
  * the state of the game that is run once over all words. */
-#include "../memory.h"
-#include "../scenario.h"
+#include "../sim/memory.h"
+#include "../sim/scenario.h"
 
 enum { FRAMES = 400, BEFORE = 80, FRAMES_WITHOUT_MEMORY = 60, PLACES = 24 };
 
