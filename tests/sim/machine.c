@@ -439,6 +439,6 @@ void machine_turn(machine *self) {
 void machine_close(machine *self) {
     fazgrond_peer_close(&self->peer);
     fazgrond_close(&self->session);
-    self->is_open = self->is_running = false;
+    self->is_open = self->is_running = self->comes = false;
     machine_empty(self);
 }
