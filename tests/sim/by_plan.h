@@ -1,4 +1,4 @@
-/* Who takes part in a match that is played by a plan: what its player presses, how it is deceived, what it guesses, and what was counted. */
+/* Who takes part in a match that is played by a plan: what its player presses, how it is deceived, what it guesses, what was counted. */
 #ifndef SIM_BY_PLAN_H
 #define SIM_BY_PLAN_H
 

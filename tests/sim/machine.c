@@ -243,8 +243,10 @@ void machine_hear(machine *self) {
     uint32_t most = with(self)->most_heard;
     size_t count = most != 0 && most < self->waiting ? most : self->waiting;
     for (size_t at = 0; at < count; at++) {
-        hear_one(self, self->inbox[at]);
-        free(self->inbox[at]);
+        datagram *come = self->inbox[at];
+        self->inbox[at] = NULL;
+        hear_one(self, come);
+        free(come);
     }
     self->waiting -= count;
     if (count > 0)
@@ -273,7 +275,7 @@ static int32_t give(machine *self, uint32_t player) {
     uint32_t frame = UNTOLD, word = self->program->word(self, player, shown);
     fazgrond_input_frame(&self->session, (uint8_t)(player + 1), &frame);
     int32_t code = fazgrond_add_local_input(&self->session, (uint8_t)(player + 1), word);
-    bool is_given = code == FAZGROND_INPUT_TWICE && self->is_short; /* the roll that it was given for is made again */
+    bool is_given = code == FAZGROND_INPUT_TWICE && self->is_owed; /* the roll that it was given for is made again */
     must(self, is_given || frame == self->frame + machine_epoch(self)->delays[player],
          "a word counts in another frame than its delay says");
     if (self->program->gave != NULL && !is_given)
@@ -321,6 +323,7 @@ static void play(machine *self, bool has_given) {
     else if (has_news != 0)
         code = fazgrond_synchronize_input(&self->session, &row);
     self->is_short = code == FAZGROND_NO_MEMORY;
+    self->is_owed = has_given ? self->is_short : self->is_owed;
     must_be_taken(self, code, "a turn is refused");
     machine_carry_out(self);
     must(self, !has_given || code != FAZGROND_OK || self->states.steps - steps == reached.rerun, "other frames are run than it is told");

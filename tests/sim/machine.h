@@ -75,7 +75,8 @@ struct machine {
     uint32_t frame;  /* of its session */
     uint32_t wait;   /* for so many turns it gives no words, as it was advised */
     uint64_t waited; /* the turns in which it gave none for that, or since it was too far ahead */
-    bool is_short;   /* a call had no memory, or no slot: it is made again in the next turn */
+    bool is_short;   /* a roll had no memory, or no slot: it is made again in the next turn */
+    bool is_owed;    /* its words were given, and the roll for them was refused for that */
 
     /* Its game; the row of each frame that isn't settled as it ran last; all that it has settled, from its first frame on. */
     states states;

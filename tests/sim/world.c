@@ -200,7 +200,7 @@ static void begin_anew(machine *at, uint32_t seat) {
     for (uint32_t other = 0; other < MACHINES; other++)
         at->places[other] = other;
     at->frame = at->wait = 0;
-    at->is_running = at->is_short = at->is_closing = at->is_fewer = at->is_dead = at->stays_behind = at->comes = false;
+    at->is_running = at->is_short = at->is_owed = at->is_closing = at->is_fewer = at->is_dead = at->stays_behind = at->comes = false;
 }
 
 /* Where turns are alike, the one that all have now, unless those behind it have begun theirs; else a moment within the first one. */

@@ -53,7 +53,8 @@ typedef struct put {
 } put;
 
 /* A machine has one number in the text for good, its name, which is its place in the world; in each epoch it has a seat, and so have those
- * that it plays with. What it did in epochs is written to `trace`. How it was when it last asked whether its epoch is over, `looked` says. */
+ * that it plays with. What it did in epochs is written to `trace`. How it was when it last asked whether its epoch is over, `looked` says.
+ */
 typedef struct played {
     bool is_over, has_left[PLAYERS], has_put, is_newcomer, has_begun;
     uint32_t gone, byes, cut_off_at, over_in, rows, met, machines;
