@@ -188,6 +188,10 @@ static void begin_epoch(machine *self, uint64_t before, uint32_t frames) {
         self->program->begins(self);
 }
 
+static int32_t end_epoch_if_over(machine *self, uint32_t *frames) {
+    return self->program->goes_on != NULL ? self->program->goes_on(self, frames) : fazgrond_peer_go_on(&self->peer, &self->session, frames);
+}
+
 static void go_on(machine *self) {
     uint32_t frames = UNTOLD;
     bool is_fewer = self->is_fewer;
@@ -196,14 +200,14 @@ static void go_on(machine *self) {
         return;
     uint64_t before = machine_frame(self);
     /* (once somebody has left, rows past the end may be known: they aren't played before the epoch has ended) */
-    int32_t code = is_fewer || !with(self)->tells_all ? fazgrond_peer_go_on(&self->peer, &self->session, &frames) : FAZGROND_NOTHING;
+    int32_t code = is_fewer || !with(self)->tells_all ? end_epoch_if_over(self, &frames) : FAZGROND_NOTHING;
     if (code == FAZGROND_NOTHING && with(self)->tells_all) {
         machine_synchronize(self);
-        code = fazgrond_peer_go_on(&self->peer, &self->session, &frames);
+        code = end_epoch_if_over(self, &frames);
     }
     if (code == FAZGROND_JOBS_OUT && self->program->ends_jobs != NULL) {
         self->program->ends_jobs(self);
-        code = fazgrond_peer_go_on(&self->peer, &self->session, &frames);
+        code = end_epoch_if_over(self, &frames);
     }
     if (code == FAZGROND_OK)
         begin_epoch(self, before, frames);

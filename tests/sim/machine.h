@@ -39,6 +39,8 @@ typedef struct program {
     /* All that has come in this turn was heard; its peer was polled. */
     void (*has_heard)(machine *self);
     void (*has_polled)(machine *self);
+    /* In place of fazgrond_peer_go_on. */
+    int32_t (*goes_on)(machine *self, uint32_t *frames);
     /* An epoch has ended, and its jobs are out: they are to be forgotten. */
     void (*ends_jobs)(machine *self);
     /* The next epoch begins without it. */
