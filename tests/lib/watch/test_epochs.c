@@ -3,6 +3,7 @@
  * test_epochs BROKER MATCH */
 #define _POSIX_C_SOURCE 200809L
 #include "../../../programs/duel/duel_game.h"
+#include "../../sim/claim.h"
 #include "../../sim/world.h"
 #include "faz_cast.h"
 #include "faz_view.h"
@@ -129,7 +130,7 @@ static void close_one(publisher *self) {
 
 static void on_seen(const void *shown, const fazgrond_row *row, uint32_t frame, void *closure) {
     uint32_t *last = closure;
-    MUST(frame == *last + 1 && row->gone == 0);
+    MUST(frame == *last + 1 && row_is_same(row, &machine_record(&all->machine[0], *last)->row));
     for (uint32_t me = 0; me < PUBLISHERS; me++)
         MUST(memcmp(shown, &publishers[me].came[frame], sizeof(duel)) == 0);
     *last = frame;
@@ -158,7 +159,7 @@ int main(int count, char **words) {
     play();
     for (uint32_t me = 0; me < PUBLISHERS; me++)
         close_one(&publishers[me]);
-    world_end(all);
     watch();
+    world_end(all);
     return 0;
 }
