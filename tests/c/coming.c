@@ -34,7 +34,7 @@ static place places[PLACES];
 static uint8_t bytes_of_state[MOST_STATE];
 
 static bool plays(uint32_t one) { return at[one].is_open && at[one].is_running; }
-static bool comes(uint32_t one) { return at[one].is_open && at[one].comes; }
+static bool comes(uint32_t one) { return at[one].is_open && at[one].is_apart; }
 static uint32_t epochs(uint32_t one) { return at[one].part_count - 1; }
 static uint32_t desyncs(uint32_t one) { return world_told(all, one, FAZGROND_DESYNC, NOBODY); }
 static uint32_t below(uint32_t count) { return world_draw(all, count); }
@@ -75,7 +75,7 @@ static void send_by(void *of, uint32_t to, const uint8_t *bytes, size_t length) 
     machine *self = of;
     datagram sent = { .from = self->me, .to = to, .length = length };
     memcpy(sent.bytes, bytes, length);
-    places[self->me].posted += !self->comes;
+    places[self->me].posted += !self->is_apart;
     world_post(all, &sent);
 }
 
@@ -124,7 +124,7 @@ static void is_told(machine *self, const fazgrond_event *event) {
 /* ---- The program of a machine that comes. */
 
 static void hears(machine *self, const datagram *come) {
-    if (self->comes)
+    if (self->is_apart)
         faz_comer_hear(&places[self->me].comer, come->from, come->bytes, come->length, clock_of(self));
 }
 
@@ -151,7 +151,7 @@ static bool do_next(machine *self, faz_comer *comer) {
     else if (next.what != FAZ_NOTHING)
         come_in(self, &next);
     machine_must(self, next.what == FAZ_NOTHING || self->settled == next.frame, "who comes is at another frame than it is told");
-    return next.what != FAZ_NOTHING && self->comes;
+    return next.what != FAZ_NOTHING && self->is_apart;
 }
 
 static void come(machine *self) {
@@ -163,7 +163,7 @@ static void come(machine *self) {
 
 /* ---- Programs are begun, and stop. */
 
-static const program hosting = { .comes = come,
+static const program hosting = { .apart = come,
                                  .word = word,
                                  .gave = gave,
                                  .hears = hears,

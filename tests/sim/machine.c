@@ -235,7 +235,7 @@ void machine_empty(machine *self) {
 static void hear_one(machine *self, const datagram *come) {
     if (self->program->hears != NULL)
         self->program->hears(self, come);
-    if (self->comes)
+    if (self->is_apart)
         return;
     int32_t code = fazgrond_peer_receive(&self->peer, &self->session, come->bytes, come->length, now_of(self));
     self->answers[code >= 0 && code < CODES ? code : CODES - 1]++;
@@ -411,10 +411,10 @@ static void take_turn(machine *self) {
         self->program->has_heard(self);
     if (!with(self)->polls_late)
         poll(self);
-    if (!self->comes)
+    if (!self->is_apart)
         go_on(self);
-    if (self->comes) {
-        self->program->comes(self);
+    if (self->is_apart) {
+        self->program->apart(self);
         return;
     }
     if (self->is_running && self->program->plays != NULL)
@@ -436,8 +436,8 @@ static void take_turn(machine *self) {
 
 void machine_turn(machine *self) {
     machine_hear(self);
-    if (self->comes)
-        self->program->comes(self);
+    if (self->is_apart)
+        self->program->apart(self);
     else
         take_turn(self);
     self->turns++;
@@ -446,6 +446,6 @@ void machine_turn(machine *self) {
 void machine_close(machine *self) {
     fazgrond_peer_close(&self->peer);
     fazgrond_close(&self->session);
-    self->is_open = self->is_running = self->comes = false;
+    self->is_open = self->is_running = self->is_apart = false;
     machine_empty(self);
 }

@@ -31,8 +31,8 @@ typedef struct program {
     uint32_t (*word)(machine *self, uint32_t player, uint64_t frame);
     /* Such a word was given for this frame of its session, and what was answered. */
     void (*gave)(machine *self, uint32_t player, uint32_t frame, uint32_t word, int32_t code);
-    /* The turn of a machine that comes, once it has heard what is there for it (`hears`). */
-    void (*comes)(machine *self);
+    /* The turn of a machine that is apart, once it has heard what is there for it (`hears`). */
+    void (*apart)(machine *self);
     /* A datagram is about to be heard; and was, with what was answered. */
     void (*hears)(machine *self, const datagram *come);
     void (*heard)(machine *self, const datagram *come, int32_t code);
@@ -70,7 +70,7 @@ struct machine {
     fazgrond_session session;
     fazgrond_peer peer;
     bool is_open, is_running, has_rolled;
-    bool comes; /* it isn't in the match yet: it has neither session nor peer, and its turns are its program's */
+    bool is_apart; /* it plays no match, not yet or not any more: its turns are its program's */
     uint64_t draw;
     uint32_t opening; /* how often it was opened */
     uint64_t next_turn, turns;

@@ -200,7 +200,7 @@ static void begin_anew(machine *at, uint32_t seat) {
     for (uint32_t other = 0; other < MACHINES; other++)
         at->places[other] = other;
     at->frame = at->wait = 0;
-    at->is_running = at->is_short = at->is_owed = at->is_closing = at->is_fewer = at->is_dead = at->stays_behind = at->comes = false;
+    at->is_running = at->is_short = at->is_owed = at->is_closing = at->is_fewer = at->is_dead = at->stays_behind = at->is_apart = false;
 }
 
 /* Where turns are alike, the one that all have now, unless those behind it have begun theirs; else a moment within the first one. */
@@ -235,7 +235,7 @@ void world_begin_to_come(world *self, uint32_t who) {
     begin_anew(at, who);
     states_open(&at->states, game_of(self), world_players(self), world_slots(self));
     at->from = at->settled = at->part_count = 0;
-    at->comes = at->is_open = true;
+    at->is_apart = at->is_open = true;
     at->next_turn = first_turn(self, who);
 }
 

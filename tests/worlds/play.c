@@ -264,7 +264,7 @@ static void leave(machine *at, ending how) {
     if (own(at)->byes == 0 && !own(at)->is_over) {
         own(at)->byes = BYES;
         own(at)->ending = how;
-        at->comes = true; /* from now on it only says bye */
+        at->is_apart = true; /* from now on it only says bye */
     }
 }
 
@@ -397,7 +397,7 @@ static void begins(machine *at) {
 }
 
 static void is_left_out(machine *at) {
-    at->comes = true;
+    at->is_apart = true;
     end_as(at, NOT_IN);
 }
 
@@ -561,7 +561,7 @@ static void open_newcomer(machine *at) {
 static void has_polled(machine *at) {
     machine_hear_events(at);
     own(at)->has_begun = false;
-    if (at->is_running && with.lasts && !at->comes) {
+    if (at->is_running && with.lasts && !at->is_apart) {
         note_rows(at);
         own(at)->shown_before = machine_frame(at);
     }
@@ -590,7 +590,7 @@ static bool sends(machine *at, datagram *made) {
 
 /* What it hears while it says bye. */
 static void hears(machine *at, const datagram *come) {
-    if (at->comes)
+    if (at->is_apart)
         (void)fazgrond_peer_receive(&at->peer, &at->session, come->bytes, come->length, clock_of(at));
 }
 
@@ -621,7 +621,7 @@ static void says_bye(machine *at) {
 static const program of_texts = { .opens = opens,
                                   .word = word_of,
                                   .gave = gave,
-                                  .comes = says_bye,
+                                  .apart = says_bye,
                                   .hears = hears,
                                   .has_polled = has_polled,
                                   .is_left_out = is_left_out,
