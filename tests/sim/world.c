@@ -78,6 +78,11 @@ static void arrive(world *self, datagram *come) {
         free(come);
 }
 
+void world_deliver(world *self) {
+    while (network_due(&self->network) <= self->now)
+        arrive(self, network_take(&self->network));
+}
+
 /* ---- The game. */
 
 uint32_t world_slots(const world *self) { return self->setup.slots != 0 ? self->setup.slots : GAME_SLOTS; }

@@ -124,6 +124,9 @@ bool world_play(world *self, uint32_t frames, uint32_t milliseconds);
 /* Puts a datagram on its way, which is neither lost nor copied, and takes so long. */
 void world_send(world *self, uint32_t from, uint32_t to, const uint8_t *bytes, size_t length, uint32_t milliseconds);
 
+/* What is due by now arrives, before any turn of this moment. */
+void world_deliver(world *self);
+
 /* What a machine sends goes the way of the network: it is lost, or late, or comes twice. */
 void world_post(world *self, datagram *sent);
 

@@ -172,9 +172,8 @@ static void read_world(FILE *from) {
 
 /* ---- The network. */
 
-/* What comes in a turn is there before the first machine takes its own. */
 static void put_on_way(world *self, const datagram *sent, uint32_t later) {
-    network_put(&self->network, sent, self->now + later * (uint64_t)self->setup.turn - 1);
+    network_put(&self->network, sent, self->now + later * (uint64_t)self->setup.turn);
 }
 
 static bool goes(world *self, datagram *sent) {
@@ -736,6 +735,7 @@ static void play(void) {
     while (all->turn < turns) {
         for (; next < happening_count && happenings[next].turn == all->turn; next++)
             happen(&happenings[next]);
+        world_deliver(all);
         for (uint32_t who = 0; who < MACHINES; who++)
             if (guests[who].is_coming)
                 open_newcomer(&all->machine[who]);
