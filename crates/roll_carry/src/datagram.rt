@@ -4,9 +4,9 @@ ghost use Rattle.roll_carry.specs.Spelling.{datagram_of, maker_of, parcel_value}
 ghost use Rattle.roll_carry.specs.declared.limits.TheConstants.{TAIL_LEAST, TAIL_LIMIT};
 
 use crate::limits::MAKER_AT;
-use crate::writing::put;
 use arrayvec::ArrayVec;
 use roll_mesh::MACHINE_LIMIT;
+use roll_wire::bytes::put;
 use roll_wire::{DATAGRAM_LIMIT, MAGIC};
 
 /// Whom a machine hears straight, as it said: what it hears of another's own sending, and not by others.

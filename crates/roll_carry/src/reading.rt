@@ -1,9 +1,8 @@
 //! Bytes to maps and parcels.
 ghost use Rattle.std.specs.Prelude.{◌≡◌, ◌+◌, ◌≤◌, ◌++◌, ◌∷◌, [], List, length, Ok, IfNone, IfOk, IfSome, option_map};
 ghost use Rattle.std.specs.Result.{result_err, result_ok};
-ghost use Rattle.std.specs.Int.{w16, w32, w64};
 ghost use Rattle.std.specs.List.{AllByRecursion};
-ghost use Rattle.roll_wire.specs.Reading.{Gives, bits, byte_at, envelope_at, magic_at, number_at, repeated};
+ghost use Rattle.roll_wire.specs.Reading.{Gives, repeated};
 ghost use Rattle.roll_mesh.specs.declared.limits.TheConstants.{MACHINE_LIMIT};
 ghost use Rattle.roll_carry.specs.Spelling.{Carries, IsParcel, Maps, ParcelValue, Says, area_text, lone, parcel_text, parcel_value};
 ghost use Rattle.roll_carry.specs.Reading.{IsArea, area_of, first_of, head_at, hearing_at, map_of, parcel_at, parcels_at, parcels_in, tail_at, tail_of};
@@ -17,75 +16,8 @@ use crate::datagram::{Hearing, Parcel};
 use crate::limits::{AREA_LIMIT, CARRIED, LABEL, MAP, TAIL_LEAST, TAIL_LIMIT};
 use arrayvec::ArrayVec;
 use roll_mesh::MACHINE_LIMIT;
-use roll_wire::{DATAGRAM_LIMIT, Envelope, MAGIC, WireFault};
-
-#[tactic(auto, unfolding(roll_wire::specs::Reading::byte_at))]
-fn byte_of(bytes: &[u8]) -> Result<(u8, &[u8]), WireFault>
-    ensures { Gives (λ x. (x.0, x.1.now)) result (byte_at bytes.now) }
-{
-    match bytes {
-        [] => Err(WireFault::Short),
-        [byte, rest @ ..] => Ok((*byte, rest)),
-    }
-}
-
-fn u16_at(bytes: &[u8]) -> Result<(u16, &[u8]), WireFault>
-    ensures { Gives (λ x. (x.0, x.1.now)) result (number_at w16 bytes.now) }
-{
-    if bytes.len() < 2 {
-        return Err(WireFault::Short);
-    }
-    let (front, rest) = bytes.split_at(2);
-    Ok((u16::from_be_bytes([front[0], front[1]]), rest))
-}
-
-fn u32_at(bytes: &[u8]) -> Result<(u32, &[u8]), WireFault>
-    ensures { Gives (λ x. (x.0, x.1.now)) result (number_at w32 bytes.now) }
-{
-    if bytes.len() < 4 {
-        return Err(WireFault::Short);
-    }
-    let (front, rest) = bytes.split_at(4);
-    let number = u32::from_be_bytes([front[0], front[1], front[2], front[3]]);
-    Ok((number, rest))
-}
-
-fn u64_at(bytes: &[u8]) -> Result<(u64, &[u8]), WireFault>
-    ensures { Gives (λ x. (x.0, x.1.now)) result (number_at w64 bytes.now) }
-{
-    if bytes.len() < 8 {
-        return Err(WireFault::Short);
-    }
-    let (front, rest) = bytes.split_at(8);
-    let number = u64::from_be_bytes([
-        front[0], front[1], front[2], front[3], front[4], front[5], front[6], front[7],
-    ]);
-    Ok((number, rest))
-}
-
-#[tactic(auto, unfolding(roll_wire::specs::Reading::magic_at))]
-fn magic_of(bytes: &[u8]) -> Result<(u32, &[u8]), WireFault>
-    ensures { Gives (λ x. (x.0, x.1.now)) result (magic_at bytes.now) }
-{
-    let (magic, rest) = u32_at(bytes)?;
-    if magic != MAGIC {
-        return Err(WireFault::Magic);
-    }
-    Ok((magic, rest))
-}
-
-#[tactic(auto, unfolding(roll_wire::specs::Reading::envelope_at))]
-fn envelope_of(bytes: &[u8]) -> Result<(Envelope, &[u8]), WireFault>
-    ensures { Gives (λ x. (x.0, x.1.now)) result (envelope_at bytes.now) }
-{
-    let (match_number, rest) = u64_at(bytes)?;
-    let (sender, rest) = byte_of(rest)?;
-    let envelope = Envelope {
-        match_number,
-        sender,
-    };
-    Ok((envelope, rest))
-}
+use roll_wire::bytes::{bits_of, byte_of, envelope_of, magic_of, u16_at, u32_at};
+use roll_wire::{DATAGRAM_LIMIT, Envelope, WireFault};
 
 /// What a datagram of a kind begins with.
 #[tactic(auto, unfolding(crate::specs::Reading::head_at))]
@@ -99,19 +31,6 @@ fn head_of(kind: u8, bytes: &[u8]) -> Result<(Envelope, &[u8]), WireFault>
         return Err(WireFault::Kind);
     }
     Ok((envelope, rest))
-}
-
-/// Whether each bit of a mask is set, the lowest first.
-fn bits_of(mask: u8) -> [bool; MACHINE_LIMIT]
-    ensures { result ≡ bits 8 mask }
-{
-    let mut bits = [false; MACHINE_LIMIT];
-    let mut left = mask;
-    for machine in 0..MACHINE_LIMIT {
-        bits[machine] = left % 2 == 1;
-        left /= 2;
-    }
-    bits
 }
 
 #[tactic(auto, unfolding(roll_wire::specs::Reading::mask_at, crate::specs::Reading::hearing_at))]

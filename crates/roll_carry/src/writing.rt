@@ -1,7 +1,7 @@
 //! Maps and parcels to bytes.
-ghost use Rattle.std.specs.Prelude.{◌≡◌, ◌+◌, ◌*◌, ◌≤◌, ◌^◌, ◌<◌, ◌++◌, length, List};
+ghost use Rattle.std.specs.Prelude.{◌≡◌, ◌+◌, ◌*◌, ◌≤◌, ◌<◌, ◌++◌, length, List};
 ghost use Rattle.std.specs.List.{AllByRecursion};
-ghost use Rattle.roll_wire.specs.Spelling.{IsEnvelope, mask};
+ghost use Rattle.roll_wire.specs.Spelling.{IsEnvelope};
 ghost use Rattle.roll_wire.specs.declared.limits.TheConstants.{DATAGRAM_LIMIT};
 ghost use Rattle.roll_mesh.specs.declared.limits.TheConstants.{MACHINE_LIMIT};
 ghost use Rattle.roll_carry.specs.Spelling.{Carries, Fits, IsHearing, IsParcel, Maps, ParcelValue, area_text, head, hearing_text, map_text, message_by, parcel_text, parcel_value, said_by};
@@ -13,32 +13,10 @@ use arrayvec::ArrayVec;
 use roll_contact::Key;
 use roll_contact::seal::seal;
 use roll_mesh::MACHINE_LIMIT;
+use roll_wire::bytes::{mask_of, put};
 use roll_wire::{DATAGRAM_LIMIT, MAGIC};
 
 type Bytes = ArrayVec<u8, DATAGRAM_LIMIT>;
-
-pub(crate) fn put<const N: usize>(out: &mut ArrayVec<u8, N>, bytes: &[u8])
-    requires { length out.old.items + length bytes.now ≤ N }
-    ensures items { out.new.items ≡ out.old.items ++ bytes.now }
-    ensures len { length out.new.items ≡ length out.old.items + length bytes.now }
-{
-    for byte in bytes {
-        out.push(*byte);
-    }
-}
-
-/// A bit for each place, the lowest for place 0.
-#[tactic(auto, unfolding(roll_wire::specs::Spelling::mask))]
-fn mask_of(places: &[bool]) -> u8
-    requires { length places.now ≤ 8 }
-    ensures mask { result ≡ mask places.now }
-    ensures below { result < 2 ^ length places.now }
-{
-    match places {
-        [] => 0,
-        [is_set, others @ ..] => u8::from(*is_set) + 2 * mask_of(others),
-    }
-}
 
 /// The 14 bytes that a datagram of a kind begins with, before it is sealed.
 fn begin(key: &Key, sender: u8, kind: u8) -> Bytes

@@ -30,7 +30,7 @@ pub fn takers_ask_for_what_is_missing()
 ///
 /// A machine is honest if each piece that names it as its sender was sent by a giver, whose state is this one if it has
 /// the taker's name. That no other bytes have the same length and digest is no theorem; nor is it that all pieces come,
-/// which a test shows (the crate `test_states`).
+/// which a test shows (`tests/rattle/test_parts`).
 pub fn takers_hold_what_was_given()
     ensures { TakersHoldWhatWasGiven }
 {}

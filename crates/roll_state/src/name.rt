@@ -6,8 +6,9 @@ ghost use Rattle.roll_state.specs.Spelling.{digest_with};
 ghost use Rattle.roll_state.specs.States.{count_of, is_same, name_of, size_of, unknown, IsNameOf};
 
 use crate::limits::PIECE_LIMIT;
-use crate::writing::{put_name, put_u64};
+use crate::writing::put_name;
 use arrayvec::ArrayVec;
+use roll_wire::bytes::put_u64;
 use sha2::{Digest, Sha256};
 
 /// What a state is called: which one it is, how many bytes it has, and their digest.

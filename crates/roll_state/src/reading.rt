@@ -1,7 +1,7 @@
 //! Bytes to datagrams.
 ghost use Rattle.std.specs.Prelude.{◌≡◌, ◌≤◌, length, Ok, IfOk};
-ghost use Rattle.std.specs.Int.{w32, w64};
-ghost use Rattle.roll_wire.specs.Reading.{Gives, byte_at, envelope_at, magic_at, number_at, repeated};
+ghost use Rattle.std.specs.Int.{w32};
+ghost use Rattle.roll_wire.specs.Reading.{Gives, number_at, repeated};
 ghost use Rattle.roll_state.specs.Spelling.{Fits, Message, content, message, part, spelling, wish};
 ghost use Rattle.roll_state.specs.Reading.{all_of, bytes_at, content_at, name_at, part_at, wish_at};
 ghost use Rattle.roll_state.specs.declared.limits.TheConstants.{ASK_LIMIT, PIECE_LIMIT};
@@ -10,41 +10,8 @@ use crate::datagram::{Ask, Piece, StateBody, StateDatagram};
 use crate::limits::{ASK, ASK_LIMIT, PIECE, PIECE_LIMIT};
 use crate::name::StateName;
 use arrayvec::ArrayVec;
-use roll_wire::{Envelope, MAGIC, WireFault};
-
-fn u32_at(bytes: &[u8]) -> Result<(u32, &[u8]), WireFault>
-    ensures { Gives (λ x. (x.0, x.1.now)) result (number_at w32 bytes.now) }
-{
-    if bytes.len() < 4 {
-        return Err(WireFault::Short);
-    }
-    let (front, rest) = bytes.split_at(4);
-    let number = u32::from_be_bytes([front[0], front[1], front[2], front[3]]);
-    Ok((number, rest))
-}
-
-fn u64_at(bytes: &[u8]) -> Result<(u64, &[u8]), WireFault>
-    ensures { Gives (λ x. (x.0, x.1.now)) result (number_at w64 bytes.now) }
-{
-    if bytes.len() < 8 {
-        return Err(WireFault::Short);
-    }
-    let (front, rest) = bytes.split_at(8);
-    let number = u64::from_be_bytes([
-        front[0], front[1], front[2], front[3], front[4], front[5], front[6], front[7],
-    ]);
-    Ok((number, rest))
-}
-
-#[tactic(auto, unfolding(roll_wire::specs::Reading::byte_at))]
-fn byte_of(bytes: &[u8]) -> Result<(u8, &[u8]), WireFault>
-    ensures { Gives (λ x. (x.0, x.1.now)) result (byte_at bytes.now) }
-{
-    match bytes {
-        [] => Err(WireFault::Short),
-        [byte, rest @ ..] => Ok((*byte, rest)),
-    }
-}
+use roll_wire::WireFault;
+use roll_wire::bytes::{byte_of, envelope_of, magic_of, u32_at, u64_at};
 
 fn digest_of(bytes: &[u8]) -> Result<([u8; 32], &[u8]), WireFault>
     ensures { Gives (λ x. (x.0, x.1.now)) result (bytes_at 32 bytes.now) }
@@ -138,30 +105,6 @@ fn body_of(bytes: &[u8]) -> Result<(StateBody, &[u8]), WireFault>
     } else {
         Err(WireFault::Kind)
     }
-}
-
-#[tactic(auto, unfolding(roll_wire::specs::Reading::magic_at))]
-fn magic_of(bytes: &[u8]) -> Result<(u32, &[u8]), WireFault>
-    ensures { Gives (λ x. (x.0, x.1.now)) result (magic_at bytes.now) }
-{
-    let (magic, rest) = u32_at(bytes)?;
-    if magic != MAGIC {
-        return Err(WireFault::Magic);
-    }
-    Ok((magic, rest))
-}
-
-#[tactic(auto, unfolding(roll_wire::specs::Reading::envelope_at))]
-fn envelope_of(bytes: &[u8]) -> Result<(Envelope, &[u8]), WireFault>
-    ensures { Gives (λ x. (x.0, x.1.now)) result (envelope_at bytes.now) }
-{
-    let (match_number, rest) = u64_at(bytes)?;
-    let (sender, rest) = byte_of(rest)?;
-    let envelope = Envelope {
-        match_number,
-        sender,
-    };
-    Ok((envelope, rest))
 }
 
 #[tactic(auto, unfolding(crate::specs::Reading::all_of))]

@@ -1,7 +1,7 @@
 //! Datagrams to bytes.
 ghost use Rattle.std.specs.Prelude.{◌≡◌, ◌+◌, ◌*◌, ◌≤◌, ◌++◌, length};
 ghost use Rattle.std.specs.List.{flat_map, AllByRecursion};
-ghost use Rattle.roll_wire.specs.Spelling.{byte, envelope, long, number, IsEnvelope, IsLong, IsNumber};
+ghost use Rattle.roll_wire.specs.Spelling.{envelope, number, IsNumber};
 ghost use Rattle.roll_state.specs.Spelling.{body, content, message, name, spelling, Fits, IsContent, IsName};
 ghost use Rattle.roll_wire.specs.declared.limits.TheConstants.{DATAGRAM_LIMIT};
 ghost use Rattle.roll_state.specs.declared.limits.TheConstants.{ASK_LIMIT, PIECE_LIMIT};
@@ -10,47 +10,10 @@ use crate::datagram::{Ask, Piece, StateBody, StateDatagram};
 use crate::limits::{ASK, ASK_LIMIT, PIECE, PIECE_LIMIT};
 use crate::name::StateName;
 use arrayvec::ArrayVec;
-use roll_wire::{DATAGRAM_LIMIT, Envelope, MAGIC};
+use roll_wire::bytes::{put, put_envelope, put_u32, put_u64};
+use roll_wire::{DATAGRAM_LIMIT, MAGIC};
 
 type Bytes = ArrayVec<u8, DATAGRAM_LIMIT>;
-
-fn put(out: &mut Bytes, bytes: &[u8])
-    requires { length out.old.items + length bytes.now ≤ DATAGRAM_LIMIT }
-    ensures items { out.new.items ≡ out.old.items ++ bytes.now }
-    ensures len { length out.new.items ≡ length out.old.items + length bytes.now }
-{
-    for byte in bytes {
-        out.push(*byte);
-    }
-}
-
-fn put_u32(out: &mut Bytes, n: u32)
-    requires { length out.old.items + 4 ≤ DATAGRAM_LIMIT }
-    ensures items { out.new.items ≡ out.old.items ++ number n }
-    ensures len { length out.new.items ≡ length out.old.items + 4 }
-    ensures fits { IsNumber n }
-{
-    put(out, &n.to_be_bytes());
-}
-
-pub(crate) fn put_u64(out: &mut Bytes, n: u64)
-    requires { length out.old.items + 8 ≤ DATAGRAM_LIMIT }
-    ensures items { out.new.items ≡ out.old.items ++ long n }
-    ensures len { length out.new.items ≡ length out.old.items + 8 }
-    ensures fits { IsLong n }
-{
-    put(out, &n.to_be_bytes());
-}
-
-fn put_envelope(out: &mut Bytes, e: &Envelope)
-    requires { length out.old.items + 9 ≤ DATAGRAM_LIMIT }
-    ensures items { out.new.items ≡ out.old.items ++ envelope e.now }
-    ensures len { length out.new.items ≡ length out.old.items + 9 }
-    ensures fits { IsEnvelope e.now }
-{
-    put_u64(out, e.match_number);
-    out.push(e.sender);
-}
 
 pub(crate) fn put_name(out: &mut Bytes, s: &StateName)
     requires { length out.old.items + 48 ≤ DATAGRAM_LIMIT }

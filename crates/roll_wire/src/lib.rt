@@ -4,6 +4,7 @@
 //! that is tested (`tests/c/wire.c`).
 #![tactic(auto)]
 
+pub mod bytes;
 mod datagram;
 mod fault;
 mod laws;

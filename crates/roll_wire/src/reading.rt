@@ -1,54 +1,18 @@
 //! Bytes to datagrams.
-ghost use Rattle.std.specs.Prelude.{◌≡◌, ◌≢◌, ◌<◌, ◌≤◌, ◌^◌, List, length, is_none, None, Ok, IfOk};
+ghost use Rattle.std.specs.Prelude.{◌≡◌, ◌<◌, ◌≤◌, is_none, None, Ok, IfOk};
 ghost use Rattle.std.specs.List.{list_all, list_any};
-ghost use Rattle.std.specs.Int.{w32, w64};
 ghost use Rattle.roll_mesh.specs.declared.limits.TheConstants.{PLAYER_LIMIT};
 ghost use Rattle.roll_mesh.specs.declared.packet.Offer.{Offer};
 ghost use Rattle.roll_wire.specs.Spelling.{Fits, Message, content, count_of, digits_limit, message, spelling, turn};
-ghost use Rattle.roll_wire.specs.Reading.{Gives, all_of, bits, byte_at, clocks_at, content_at, counted_at, digits_at, envelope_at, flag_at, head_at, hello_at, is_over, is_unmarked, magic_at, mark_at, marked_at, marks_at, mask_at, masked_at, newcomer_at, no_offer, number_at, offer_at, optional_at, place_at, repeated, run_at, settled_at, short_at, turn_at, unmarked_of, view_at, within_at, word_at, words_at};
+ghost use Rattle.roll_wire.specs.Reading.{Gives, all_of, byte_at, clocks_at, content_at, counted_at, digits_at, flag_at, head_at, hello_at, is_over, is_unmarked, mark_at, marked_at, marks_at, mask_at, masked_at, newcomer_at, no_offer, offer_at, optional_at, place_at, repeated, run_at, settled_at, short_at, turn_at, unmarked_of, view_at, within_at, word_at, words_at};
 ghost use Rattle.roll_wire.specs.declared.limits.TheConstants.{WORD_LIMIT};
 
-use crate::datagram::{
-    Body, Clocks, Datagram, Envelope, Head, Hello, Mark, Marked, Newcomer, Play, Settled,
-};
+use crate::bytes::{bits_of, byte_of, envelope_of, magic_of, u32_at, u64_at};
+use crate::datagram::{Body, Clocks, Datagram, Head, Hello, Mark, Marked, Newcomer, Play, Settled};
 use crate::fault::WireFault;
-use crate::limits::{MAGIC, WORD_LIMIT};
+use crate::limits::WORD_LIMIT;
 use arrayvec::ArrayVec;
 use roll_mesh::{Offer, PLAYER_LIMIT, View};
-
-fn u32_at(bytes: &[u8]) -> Result<(u32, &[u8]), WireFault>
-    ensures { Gives (λ x. (x.0, x.1.now)) result (number_at w32 bytes.now) }
-{
-    if bytes.len() < 4 {
-        return Err(WireFault::Short);
-    }
-    let (front, rest) = bytes.split_at(4);
-    let number = u32::from_be_bytes([front[0], front[1], front[2], front[3]]);
-    Ok((number, rest))
-}
-
-fn u64_at(bytes: &[u8]) -> Result<(u64, &[u8]), WireFault>
-    ensures { Gives (λ x. (x.0, x.1.now)) result (number_at w64 bytes.now) }
-{
-    if bytes.len() < 8 {
-        return Err(WireFault::Short);
-    }
-    let (front, rest) = bytes.split_at(8);
-    let number = u64::from_be_bytes([
-        front[0], front[1], front[2], front[3], front[4], front[5], front[6], front[7],
-    ]);
-    Ok((number, rest))
-}
-
-#[tactic(auto, unfolding(crate::specs::Reading::byte_at))]
-fn byte_of(bytes: &[u8]) -> Result<(u8, &[u8]), WireFault>
-    ensures { Gives (λ x. (x.0, x.1.now)) result (byte_at bytes.now) }
-{
-    match bytes {
-        [] => Err(WireFault::Short),
-        [byte, rest @ ..] => Ok((*byte, rest)),
-    }
-}
 
 #[tactic(auto, unfolding(crate::specs::Reading::flag_at))]
 fn flag_of(bytes: &[u8]) -> Result<(bool, &[u8]), WireFault>
@@ -93,38 +57,12 @@ fn short_of(bytes: &[u8]) -> Result<(u32, &[u8]), WireFault>
     digits_of(4, bytes)
 }
 
-/// Whether each bit of a mask is set, the lowest first.
-fn bits_of(mask: u8) -> [bool; PLAYER_LIMIT]
-    ensures { result ≡ bits 8 mask }
-{
-    let mut bits = [false; PLAYER_LIMIT];
-    let mut left = mask;
-    for place in 0..PLAYER_LIMIT {
-        bits[place] = left % 2 == 1;
-        left /= 2;
-    }
-    bits
-}
-
 #[tactic(auto, unfolding(crate::specs::Reading::mask_at))]
 fn mask_of(bytes: &[u8]) -> Result<([bool; PLAYER_LIMIT], &[u8]), WireFault>
     ensures { Gives (λ x. (x.0, x.1.now)) result (mask_at bytes.now) }
 {
     let (mask, rest) = byte_of(bytes)?;
     Ok((bits_of(mask), rest))
-}
-
-#[tactic(auto, unfolding(crate::specs::Reading::envelope_at))]
-fn envelope_of(bytes: &[u8]) -> Result<(Envelope, &[u8]), WireFault>
-    ensures { Gives (λ x. (x.0, x.1.now)) result (envelope_at bytes.now) }
-{
-    let (match_number, rest) = u64_at(bytes)?;
-    let (sender, rest) = byte_of(rest)?;
-    let envelope = Envelope {
-        match_number,
-        sender,
-    };
-    Ok((envelope, rest))
 }
 
 #[tactic(auto, unfolding(crate::specs::Reading::clocks_at))]
@@ -223,17 +161,6 @@ fn player_offer_of(is_there: bool, bytes: &[u8]) -> Result<(Offer, &[u8]), WireF
         return Ok((Offer { first: 0, end: 0 }, bytes));
     }
     offer_of(bytes)
-}
-
-#[tactic(auto, unfolding(crate::specs::Reading::magic_at))]
-fn magic_of(bytes: &[u8]) -> Result<(u32, &[u8]), WireFault>
-    ensures { Gives (λ x. (x.0, x.1.now)) result (magic_at bytes.now) }
-{
-    let (magic, rest) = u32_at(bytes)?;
-    if magic != MAGIC {
-        return Err(WireFault::Magic);
-    }
-    Ok((magic, rest))
 }
 
 #[tactic(auto, unfolding(crate::specs::Reading::run_at))]

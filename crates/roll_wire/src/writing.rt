@@ -1,56 +1,18 @@
 //! Datagrams to bytes.
-ghost use Rattle.std.specs.Prelude.{◌≡◌, ℕ, ◌+◌, ◌*◌, ◌<◌, ◌≤◌, ◌^◌, slice_index, [], ◌∷◌, ◌++◌, length, map, drop, true, false, is_some, IfSome, IfNone};
+ghost use Rattle.std.specs.Prelude.{◌≡◌, ℕ, ◌+◌, ◌*◌, ◌<◌, ◌≤◌, ◌^◌, slice_index, ◌++◌, length, map, drop, true, false, is_some, IfSome, IfNone};
 ghost use Rattle.std.specs.List.{AllByRecursion, flat_map};
-ghost use Rattle.arrayvec.specs.ArrayVec.{array_vec_len};
-ghost use Rattle.roll_wire.specs.Spelling.{Fits, IsByte, IsClocks, IsContent, IsEnvelope, IsHead, IsHello, IsLong, IsMark, IsMarked, IsNewcomer, IsNumber, IsOffer, IsSettled, IsTurn, are_offers, are_spelled, body, byte, clocks, content, count_of, digits, digits_limit, envelope, flag, has_players, head, hello, is_counted, is_offer, is_offered, is_spelled, is_turn, is_whole, long, mark, marked, marks, mask, masked, message, newcomer, number, offer, optional, pending, present, repeats, rest_of, runs, settled, short, spelling, turn, view, within};
+ghost use Rattle.roll_wire.specs.Spelling.{Fits, IsByte, IsClocks, IsContent, IsHead, IsHello, IsMark, IsMarked, IsNewcomer, IsNumber, IsOffer, IsSettled, IsTurn, are_offers, are_spelled, body, byte, clocks, content, count_of, digits, digits_limit, envelope, flag, has_players, head, hello, is_counted, is_offer, is_offered, is_spelled, is_turn, is_whole, mark, marked, marks, mask, masked, message, newcomer, number, offer, optional, pending, present, repeats, rest_of, runs, settled, short, spelling, turn, view, within};
 ghost use Rattle.roll_wire.specs.declared.limits.TheConstants.{DATAGRAM_LIMIT, WORD_LIMIT};
 ghost use Rattle.roll_mesh.specs.declared.limits.TheConstants.{MACHINE_LIMIT, PLAYER_LIMIT};
 
-use crate::datagram::{
-    Body, Clocks, Datagram, Envelope, Head, Hello, Mark, Marked, Newcomer, Play, Settled,
-};
+use crate::bytes::{mask_of, put_byte, put_envelope, put_u32, put_u64};
+use crate::datagram::{Body, Clocks, Datagram, Head, Hello, Mark, Marked, Newcomer, Play, Settled};
 use crate::limits::{DATAGRAM_LIMIT, MAGIC, WORD_LIMIT};
 use crate::reading::{count_of, has_any};
 use arrayvec::ArrayVec;
 use roll_mesh::{MACHINE_LIMIT, Offer, PLAYER_LIMIT, View};
 
 type Bytes = ArrayVec<u8, DATAGRAM_LIMIT>;
-
-fn put(out: &mut Bytes, bytes: &[u8])
-    requires { length out.old.items + length bytes.now ≤ DATAGRAM_LIMIT }
-    ensures { out.new.items ≡ out.old.items ++ bytes.now }
-{
-    for byte in bytes {
-        out.push(*byte);
-    }
-}
-
-fn put_u32(out: &mut Bytes, n: u32)
-    requires { length out.old.items + 4 ≤ DATAGRAM_LIMIT }
-    ensures items { out.new.items ≡ out.old.items ++ number n }
-    ensures len { length out.new.items ≡ length out.old.items + 4 }
-    ensures fits { IsNumber n }
-{
-    put(out, &n.to_be_bytes());
-}
-
-fn put_u64(out: &mut Bytes, n: u64)
-    requires { length out.old.items + 8 ≤ DATAGRAM_LIMIT }
-    ensures items { out.new.items ≡ out.old.items ++ long n }
-    ensures len { length out.new.items ≡ length out.old.items + 8 }
-    ensures fits { IsLong n }
-{
-    put(out, &n.to_be_bytes());
-}
-
-fn put_byte(out: &mut Bytes, n: u8)
-    requires { length out.old.items + 1 ≤ DATAGRAM_LIMIT }
-    ensures items { out.new.items ≡ out.old.items ++ byte n }
-    ensures len { length out.new.items ≡ length out.old.items + 1 }
-    ensures fits { IsByte n }
-{
-    out.push(n);
-}
 
 /// A number in one byte, and so many more at most.
 #[tactic(auto, unfolding(crate::specs::Spelling::digits, crate::specs::Spelling::digits_limit))]
@@ -77,19 +39,6 @@ fn put_short(out: &mut Bytes, n: u32)
     put_digits(out, 4, n);
 }
 
-/// A bit for each place, the lowest for place 0.
-#[tactic(auto, unfolding(crate::specs::Spelling::mask))]
-fn mask_of(places: &[bool]) -> u8
-    requires { length places.now ≤ 8 }
-    ensures mask { result ≡ mask places.now }
-    ensures below { result < 2 ^ length places.now }
-{
-    match places {
-        [] => 0,
-        [is_set, others @ ..] => u8::from(*is_set) + 2 * mask_of(others),
-    }
-}
-
 fn put_mask(out: &mut Bytes, places: &[bool; PLAYER_LIMIT])
     requires { length out.old.items + 1 ≤ DATAGRAM_LIMIT }
     ensures items { out.new.items ≡ out.old.items ++ byte (mask places.now) }
@@ -97,16 +46,6 @@ fn put_mask(out: &mut Bytes, places: &[bool; PLAYER_LIMIT])
     ensures all { length places.now ≡ PLAYER_LIMIT }
 {
     out.push(mask_of(places.as_slice()));
-}
-
-fn put_envelope(out: &mut Bytes, e: &Envelope)
-    requires { length out.old.items + 9 ≤ DATAGRAM_LIMIT }
-    ensures items { out.new.items ≡ out.old.items ++ envelope e.now }
-    ensures len { length out.new.items ≡ length out.old.items + 9 }
-    ensures fits { IsEnvelope e.now }
-{
-    put_u64(out, e.match_number);
-    put_byte(out, e.sender);
 }
 
 fn put_clocks(out: &mut Bytes, c: &Clocks)

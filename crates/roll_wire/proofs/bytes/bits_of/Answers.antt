@@ -1,6 +1,6 @@
 use Rattle.std.proofs.Common.{refl}
 use Rattle.roll_wire.proofs.Loop.{bits_start, bits_go_on, bits_done}
-use Rattle.roll_wire.proofs.reading.bits_of.Goals as goal
+use Rattle.roll_wire.proofs.bytes.bits_of.Goals as goal
 
 pub loop-place-init : goal.loop-place-init
 loop-place-init c = bits_start 8 _ c.args.mask refl
