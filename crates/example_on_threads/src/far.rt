@@ -70,7 +70,7 @@ fn take_turn(
     peer.turn(session, now)?;
     peer.note_settled(session, digest(session.settled_state()))?;
     if let Some(bytes) = peer.send(session, OTHER, now)? {
-        wire.send(turn, &bytes)?;
+        wire.send(&bytes)?;
     }
     Ok(())
 }

@@ -230,7 +230,7 @@ impl Side {
             .held
             .send(&mut self.peer, host.session_mut(), OTHER, now)??;
         if let Some(bytes) = sent {
-            self.wire.send(self.turn, &bytes)?;
+            self.wire.send(&bytes)?;
         }
         Ok(())
     }

@@ -1,14 +1,12 @@
-//! The way between both machines: a simulated network at each end, and two rings of datagrams, which stand for sockets.
-use roll_simnet::{Conditions, Draws, Network, Route};
+//! The way between both machines: two rings of datagrams, which stand for sockets. Some datagrams are lost on it, some are overtaken.
 use rtrb::{Consumer, Producer, RingBuffer};
 use std::alloc::{AllocError, Global};
 
-/// Datagrams are up to 3 turns late, so one may overtake another. One in five is lost, and one in twenty comes twice.
-const CONDITIONS: Conditions = Conditions {
-    late: 2,
-    lost: 20,
-    twice: 5,
-};
+/// One datagram in so many is lost.
+const LOST: u32 = 5;
+
+/// One in so many waits until the next one has come.
+const OVERTAKEN: u32 = 3;
 
 /// How many datagrams may be under way to a machine.
 const ROOM: usize = 64;
@@ -16,44 +14,57 @@ const ROOM: usize = 64;
 /// One machine's end.
 #[derive(Drop)]
 pub struct Wire {
-    way: Route,
-    network: Network,
+    alloc: Global,
+    /// How many datagrams it was given.
+    count: u32,
+    waits: Option<Vec<u8>>,
     sent: Producer<Vec<u8>>,
     come: Consumer<Vec<u8>>,
 }
 
 impl Wire {
-    /// Both ends, of machines 0 and 1.
+    /// Both ends.
     pub fn pair(alloc: Global) -> Result<(Wire, Wire), AllocError> {
         let (to_far, at_far) = RingBuffer::new(alloc, ROOM)?;
         let (to_near, at_near) = RingBuffer::new(alloc, ROOM)?;
-        let near = Wire {
-            way: Route { from: 0, to: 1 },
-            network: Network::new(alloc, CONDITIONS, Draws::new(1, 0)),
-            sent: to_far,
-            come: at_near,
-        };
-        let far = Wire {
-            way: Route { from: 1, to: 0 },
-            network: Network::new(alloc, CONDITIONS, Draws::new(1, 1)),
-            sent: to_near,
-            come: at_far,
-        };
-        Ok((near, far))
+        Ok((
+            Wire::end(alloc, to_far, at_near),
+            Wire::end(alloc, to_near, at_far),
+        ))
     }
 
-    /// Sends the datagram of a turn. Those that come in it go into the ring; one for which there is no room is lost.
-    pub fn send(&mut self, turn: u32, bytes: &[u8]) -> Result<(), AllocError> {
-        self.network.send(self.way, turn, bytes)?;
-        for _ in 0..ROOM {
-            match self.network.receive(self.way.to, turn) {
-                Some(letter) => {
-                    let _ = self.sent.push(letter.bytes);
-                }
-                None => break,
-            }
+    fn end(alloc: Global, sent: Producer<Vec<u8>>, come: Consumer<Vec<u8>>) -> Wire {
+        Wire {
+            alloc,
+            count: 0,
+            waits: None,
+            sent,
+            come,
         }
+    }
+
+    /// Sends a datagram.
+    pub fn send(&mut self, bytes: &[u8]) -> Result<(), AllocError> {
+        self.count = self.count.wrapping_add(1);
+        if self.count % LOST == 0 {
+            return Ok(());
+        }
+        let datagram = Vec::from_slice(self.alloc, bytes)?;
+        let before = self.waits.take();
+        if self.count % OVERTAKEN == 0 {
+            self.waits = Some(datagram);
+        } else {
+            self.push(Some(datagram));
+        }
+        self.push(before);
         Ok(())
+    }
+
+    /// Puts a datagram into the ring. One for which there is no room is lost.
+    fn push(&mut self, datagram: Option<Vec<u8>>) {
+        if let Some(datagram) = datagram {
+            let _ = self.sent.push(datagram);
+        }
     }
 
     /// A datagram that has come, if there is one.

@@ -1,18 +1,11 @@
 //! The way between the sides: a simulated network.
+use crate::network::{Draws, Network};
 use arrayvec::ArrayVec;
 use fazgrond::DATAGRAM_LIMIT;
-use roll_simnet::{Conditions, Draws, Letter, Network, Route};
 use std::alloc::{AllocError, Global};
 
 /// A datagram.
 pub type Bytes = ArrayVec<u8, DATAGRAM_LIMIT>;
-
-/// Datagrams come 1 to 6 turns late, so one may overtake another. One in five is lost, and one in twenty comes twice.
-const CONDITIONS: Conditions = Conditions {
-    late: 5,
-    lost: 20,
-    twice: 5,
-};
 
 /// Of how many datagrams one comes with another that nobody sent.
 const STRANGE: u32 = 7;
@@ -28,22 +21,22 @@ impl Line {
     /// Nothing is under way.
     pub fn new(alloc: Global) -> Line {
         Line {
-            network: Network::new(alloc, CONDITIONS, Draws::new(1, 0)),
+            network: Network::new(alloc, Draws::new(1, 0)),
             draws: Draws::new(1, 1),
         }
     }
 
     /// Sends a datagram, which may be lost.
-    pub fn send(&mut self, route: Route, turn: u32, bytes: &Bytes) -> Result<(), AllocError> {
+    pub fn send(&mut self, to: u8, turn: u32, bytes: &Bytes) -> Result<(), AllocError> {
         if self.draws.below(STRANGE) == 0 {
             let strange = self.strange(bytes)?;
-            self.network.send(route, turn, &strange)?;
+            self.network.send(to, turn, &strange)?;
         }
-        self.network.send(route, turn, bytes)
+        self.network.send(to, turn, bytes)
     }
 
     /// A datagram that has come to a machine, if there is one.
-    pub fn receive(&mut self, to: u8, turn: u32) -> Option<Letter> {
+    pub fn receive(&mut self, to: u8, turn: u32) -> Option<Vec<u8>> {
         self.network.receive(to, turn)
     }
 

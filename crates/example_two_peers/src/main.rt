@@ -3,6 +3,7 @@
 
 mod duel;
 mod line;
+mod network;
 mod peer;
 
 use duel::Duel;

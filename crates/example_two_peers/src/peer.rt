@@ -7,7 +7,6 @@ use fazgrond::{
     Settings,
 };
 use game_fighter::{Fight, State};
-use roll_simnet::Route;
 use std::alloc::Global;
 use thiserror::Error;
 
@@ -52,8 +51,9 @@ pub struct Side {
     pub session: Session<Fight>,
     pub peer: Peer,
     player: u8,
-    // The way to the other machine.
-    way: Route,
+    // This machine, and the other.
+    me: u8,
+    other: u8,
     // How many turns more this side waits for the other.
     wait: u32,
     /// How many turns this side waited, since it was ahead.
@@ -74,10 +74,8 @@ impl Side {
                 session,
                 peer,
                 player,
-                way: Route {
-                    from: me,
-                    to: 1 - me,
-                },
+                me,
+                other: 1 - me,
                 wait: 0,
                 waited: 0,
                 byes: BYES,
@@ -99,7 +97,7 @@ impl Side {
         let digest = digest(self.session.settled_state());
         self.peer.note_settled(&self.session, digest)?;
         if let Some(bytes) = self.tell(now)? {
-            line.send(self.way, turn, &bytes).map_err(Refusal::from)?;
+            line.send(self.other, turn, &bytes).map_err(Refusal::from)?;
         }
         Ok(())
     }
@@ -107,11 +105,11 @@ impl Side {
     /// Hears what has come.
     fn hear(&mut self, turn: u32, now: u32, line: &mut Line) {
         for _ in 0..MOST {
-            let Some(letter) = line.receive(self.way.from, turn) else {
+            let Some(bytes) = line.receive(self.me, turn) else {
                 return;
             };
             // What is ignored changed nothing of the match.
-            let _ = self.peer.receive(&mut self.session, &letter.bytes, now);
+            let _ = self.peer.receive(&mut self.session, &bytes, now);
         }
     }
 
@@ -155,18 +153,18 @@ impl Side {
     /// What to tell the other; at the end, that this side leaves.
     fn tell(&mut self, now: u32) -> Result<Option<Bytes>, OtherSession> {
         if !self.is_over() {
-            return self.peer.send(&self.session, self.way.to, now);
+            return self.peer.send(&self.session, self.other, now);
         }
         if self.byes == 0 {
             return Ok(None);
         }
         self.byes -= 1;
-        Ok(self.peer.bye(self.way.to, LEAVES))
+        Ok(self.peer.bye(self.other, LEAVES))
     }
 
     /// Whether the last frame is settled here, and nothing is left to tell: the other said that it has all words of this side.
     fn is_over(&self) -> bool {
-        match self.peer.stats(self.way.to) {
+        match self.peer.stats(self.other) {
             Some(stats) => self.is_settled() && stats.words_queued == 0,
             None => false,
         }
@@ -179,7 +177,7 @@ impl Side {
 
     /// Whether this side has no more to do: it said that it leaves, or heard it of the other.
     pub fn is_done(&self) -> bool {
-        self.is_settled() && (self.byes == 0 || self.peer.mesh().is_gone(self.way.to))
+        self.is_settled() && (self.byes == 0 || self.peer.mesh().is_gone(self.other))
     }
 }
 

@@ -35,6 +35,7 @@ mod live;
 mod looks;
 mod network;
 mod open;
+mod parts;
 mod peer_calls;
 mod peer_kinds;
 mod peer_refusal;

@@ -14,7 +14,7 @@ use Rattle.roll_session.specs.Started.{first_seen}
 use Rattle.prog_observer.specs.Hearing.{lane_in}
 use Rattle.prog_observer.specs.Observing.{Observed, nothing_seen, tree_of}
 use Rattle.prog_picture.specs.declared.scene.Window.{Window}
-use Rattle.prog_replies.specs.Output.{first_playing, game_from}
+use Rattle.prog_scripts.specs.Output.{first_playing, game_from}
 use Rattle.prog_scripts.specs.Headers.{settings_of}
 use Rattle.prog_scripts.specs.Plays.{Play}
 use Rattle.prog_scripts.specs.declared.command.Command.{Command}

@@ -2,7 +2,7 @@
 use Rattle.std.proofs.Common.{◌≡◌, ◌∙◌, ◌+◌, ℕ, List, [], ◌∷◌, ◌++◌, length, refl, ap, sym, subst, arith, append-nil, append_assoc, Option, Some, None, Result, Ok, Err}
 use Rattle.std.specs.Prelude.{◌≢◌, OnOk, fold, unwrap_or}
 use Rattle.std.proofs.lemmas.List.Sums.{fold_push}
-use Rattle.prog_replies.specs.Output.{Playing, after_command, refusal_by}
+use Rattle.prog_scripts.specs.Output.{Playing, after_command, refusal_by}
 use Rattle.prog_scripts.specs.declared.command.Command.{Command}
 use Rattle.roll_frame.specs.Games.{Game}
 use Rattle.roll_frame.specs.declared.refusal.Refusal.{Refusal}

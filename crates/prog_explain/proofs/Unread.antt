@@ -4,10 +4,10 @@ use Rattle.std.specs.Prelude.{◌<◌, IfSome}
 use Rattle.roll_text.specs.declared.streams.ReadFault.{ReadFault}
 use Rattle.roll_text.specs.declared.streams.ReadFault.TheVariants.{TooLong, NoMemory, Read}
 use Rattle.roll_text.specs.declared.streams.TheConstants.{TEXT_LIMIT}
-use Rattle.prog_parts.specs.declared.fault.PlayFault.{PlayFault}
-use Rattle.prog_parts.specs.declared.ending.Ending.{Ending}
-use Rattle.prog_parts.specs.declared.task.Task.{Task}
-use Rattle.prog_parts.specs.Faults.{fault_of_read}
+use Rattle.prog_scripts.specs.declared.fault.PlayFault.{PlayFault}
+use Rattle.prog_scripts.specs.declared.ending.Ending.{Ending}
+use Rattle.prog_scripts.specs.declared.task.Task.{Task}
+use Rattle.prog_scripts.specs.PlayFaults.{fault_of_read}
 use Rattle.roll_cli.specs.Programs.{Ends, EndsBy}
 
 of_fault : (task : Task) (known contents : Option (List ℕ)) (fault : ReadFault) → (fault ≡ TooLong → IfSome known (λ text. TEXT_LIMIT < length text))

@@ -4,7 +4,7 @@ use Rattle.std.specs.Prelude.{Err, Ok, OnOk, Result}
 use Rattle.std.specs.Result.{is_err}
 use Rattle.std.proofs.lemmas.List.Sums.{fold_push}
 use Rattle.prog_observer.specs.Observing.{Observed, after_watch}
-use Rattle.prog_replies.specs.Output.{Playing, after_command}
+use Rattle.prog_scripts.specs.Output.{Playing, after_command}
 use Rattle.prog_scripts.specs.declared.command.Command.{Command}
 use Rattle.roll_frame.specs.Core.{Core}
 use Rattle.roll_frame.specs.Games.{Game}

@@ -1,6 +1,6 @@
 -- What is noted of a script's commands that are refused.
 use Rattle.std.specs.Prelude.{◌≡◌, ◌+◌, ℕ, List, [], ◌∷◌, ◌++◌, Option, Some, None}
-use Rattle.prog_replies.specs.Output.{Playing, after_command, refusal_by}
+use Rattle.prog_scripts.specs.Output.{Playing, after_command, refusal_by}
 use Rattle.prog_scripts.specs.declared.command.Command.{Command}
 use Rattle.roll_frame.specs.Games.{Game}
 use Rattle.roll_frame.specs.declared.refusal.Refusal.{Refusal}

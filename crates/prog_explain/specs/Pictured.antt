@@ -13,12 +13,12 @@ use Rattle.roll_session.specs.Seen.{Seen}
 use Rattle.roll_text.specs.Lines.{text_of}
 use Rattle.prog_observer.specs.Drawing.{IsDrawn}
 use Rattle.prog_observer.specs.Observing.{Observed, after_watch, nothing_seen}
-use Rattle.prog_parts.specs.declared.ending.GameName.{GameName}
-use Rattle.prog_parts.specs.declared.ending.GameName.TheVariants.{Tally, Duel}
-use Rattle.prog_parts.specs.declared.task.Task.{Task}
-use Rattle.prog_parts.specs.declared.task.Task.TheVariants.{Play as PlayTask, SyncTest, Certify}
+use Rattle.prog_scripts.specs.declared.ending.GameName.{GameName}
+use Rattle.prog_scripts.specs.declared.ending.GameName.TheVariants.{Tally, Duel}
+use Rattle.prog_scripts.specs.declared.task.Task.{Task}
+use Rattle.prog_scripts.specs.declared.task.Task.TheVariants.{Play as PlayTask, SyncTest, Certify}
 use Rattle.prog_picture.specs.declared.scene.Window.{Window}
-use Rattle.prog_replies.specs.Output.{Playing, after_command, duel_game, first_playing, refusal_by, tally_game}
+use Rattle.prog_scripts.specs.Output.{Playing, after_command, duel_game, first_playing, refusal_by, tally_game}
 use Rattle.prog_scripts.specs.Headers.{settings_of}
 use Rattle.prog_scripts.specs.Plays.{IsPlay, IsScript, Play, play_lines}
 use Rattle.prog_scripts.specs.declared.command.Command.{Command}

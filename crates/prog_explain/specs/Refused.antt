@@ -3,7 +3,7 @@ use Rattle.std.specs.Prelude.{ℕ, List, ◌++◌, codes}
 use Rattle.std.specs.Fmt.{decimal}
 use Rattle.roll_frame.specs.declared.refusal.Refusal.{Refusal}
 use Rattle.roll_text.specs.Lines.{ended}
-use Rattle.prog_replies.specs.Output.{refused_line}
+use Rattle.prog_scripts.specs.Output.{refused_line}
 
 -- what is noted where a line of a script is refused, with what the refusal means
 abbrev pub refused_note : ℕ → Refusal → List ℕ → List ℕ

@@ -8,11 +8,12 @@ ghost use Rattle.prog_scripts.specs.Plays.{IsPlay, play_of};
 ghost use Rattle.roll_cli.specs.Programs.{Ends};
 ghost use Rattle.roll_cli.specs.Playings.{game_of};
 ghost use Rattle.prog_explain.specs.Noted.{AreNoted, IsNoted, refusals_by};
-ghost use Rattle.prog_parts.specs.declared.fault.PlayFault.TheVariants.{Write as CannotWrite};
+ghost use Rattle.prog_scripts.specs.declared.fault.PlayFault.TheVariants.{Write as CannotWrite};
 
 use crate::refusals::push_refused;
-use prog_parts::{Ending, GameName, PlayFault, Task};
-use prog_scripts::{Command, Header, RowsFile, Script, Version, diagnose};
+use prog_scripts::{
+    Command, Ending, GameName, Header, PlayFault, RowsFile, Script, Task, Version, diagnose,
+};
 use roll_cli::{Playing, run};
 use roll_duel::Duel;
 use roll_frame::{Profile, Refusal};

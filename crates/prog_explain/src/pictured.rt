@@ -3,19 +3,18 @@ ghost use Rattle.std.specs.Prelude.{◌≡◌, ◌&&◌, ◌⊎◌, ◌<◌, ◌
 ghost use Rattle.roll_text.specs.declared.streams.TheConstants.{TEXT_LIMIT};
 ghost use Rattle.prog_scripts.specs.Faults.{TakesAtMost};
 ghost use Rattle.prog_scripts.specs.Plays.{IsPlay, play_of};
-ghost use Rattle.prog_replies.specs.Output.{game_from};
+ghost use Rattle.prog_scripts.specs.Output.{game_from};
 ghost use Rattle.roll_cli.specs.Playings.{game_of};
 ghost use Rattle.roll_cli.specs.Programs.{Ends};
 ghost use Rattle.prog_observer.specs.Drawing.{IsDrawn};
 ghost use Rattle.prog_explain.specs.Pictured.{AreDrawn, IsGameDrawn, IsPlayDrawn, IsShown, is_roll, played_by, seen_by};
 ghost use Rattle.prog_observer.specs.Observing.{observed};
-ghost use Rattle.prog_parts.specs.declared.fault.PlayFault.TheVariants.{Write as CannotWrite};
+ghost use Rattle.prog_scripts.specs.declared.fault.PlayFault.TheVariants.{Write as CannotWrite};
 
 use crate::explained::{Notes, explain_text, note_unread};
 use prog_observer::Observer;
-use prog_parts::{Ending, GameName, PlayFault, Task};
 use prog_picture::{Sight, Window, draw};
-use prog_scripts::{Command, Script, ScriptFault};
+use prog_scripts::{Command, Ending, GameName, PlayFault, Script, ScriptFault, Task};
 use roll_cli::{Playing, run};
 use roll_duel::Duel;
 use roll_frame::Refusal;

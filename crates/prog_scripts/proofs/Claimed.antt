@@ -9,7 +9,7 @@ use Rattle.roll_frame.specs.declared.refusal.Refusal.TheVariants.{NoPlan, NoMemo
 use Rattle.roll_frame.specs.declared.settings.Settings.{Settings}
 use Rattle.roll_text.specs.Lines.{ended, text_of}
 use Rattle.roll_cert.specs.Texts.{claim_lines}
-use Rattle.prog_replies.specs.Output.{claim_text, refused_line}
+use Rattle.prog_scripts.specs.Output.{claim_text, refused_line}
 
 -- the claim of a roll is what is written
 pub claimed : (settings : Settings) (core : Core) (claim : Claim) → IfSome core.last (λ roll. claim ≡ claim_of settings.players roll) → is_none core.last ≡ false → text_of (claim_lines claim) ≡ claim_text settings core

@@ -4,8 +4,8 @@ use Rattle.std.specs.Prelude.{◌≢◌, IfErr, IfSome, IsErrAnd, Result, Ok, Er
 use Rattle.std.proofs.lemmas.Option.{IfSome_then}
 use Rattle.std.proofs.lemmas.Result.{IfOk-weaker}
 use Rattle.roll_text.specs.Streams.{AppendsPart}
-use Rattle.prog_parts.specs.declared.fault.PlayFault.{PlayFault}
-use Rattle.prog_parts.specs.declared.fault.PlayFault.TheVariants.{Unreadable, NoMemory, Write}
+use Rattle.prog_scripts.specs.declared.fault.PlayFault.{PlayFault}
+use Rattle.prog_scripts.specs.declared.fault.PlayFault.TheVariants.{Unreadable, NoMemory, Write}
 use Rattle.prog_scripts.specs.Engines.{Outputs, Plays}
 
 of_any : {X : Type 0} {P : X → Type 0} (known : Option X) → ((x : X) → P x) → IfSome known P

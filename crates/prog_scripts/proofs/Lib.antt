@@ -9,3 +9,6 @@ mod Diagnosed
 mod LinesOf
 mod Rising
 mod Said
+pub mod Written
+pub mod Claimed
+pub mod Refused

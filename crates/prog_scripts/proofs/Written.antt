@@ -12,7 +12,7 @@ use Rattle.roll_frame.specs.declared.row.Cell.{Cell}
 use Rattle.roll_session.specs.Held.{Shows}
 use Rattle.roll_plan.specs.declared.plan.Plan.{Plan}
 use Rattle.roll_session.specs.Planned.{IsPlanOfRoll}
-use Rattle.prog_replies.specs.Output.{Texts, frame_line}
+use Rattle.prog_scripts.specs.Output.{Texts, frame_line}
 
 no_roll : (last : Option Roll) → true ≡ is_none last → last ≡ None
 no_roll None e = refl

@@ -15,8 +15,8 @@ use Rattle.prog_scripts.specs.declared.diagnosis.NumberFault.{NumberFault}
 use Rattle.prog_scripts.specs.declared.diagnosis.NumberFault.TheVariants.{Empty, NotDigits, LeadingZero, TooLarge}
 use Rattle.prog_scripts.specs.declared.lines.Item.{Item}
 use Rattle.prog_scripts.specs.declared.lines.Item.TheVariants.{Word as AWord, Number as ANumber, List as AList, Players, Row}
-use Rattle.prog_parts.specs.declared.task.Task.{Task}
-use Rattle.prog_parts.specs.declared.task.Task.TheVariants.{Certify}
+use Rattle.prog_scripts.specs.declared.task.Task.{Task}
+use Rattle.prog_scripts.specs.declared.task.Task.TheVariants.{Certify}
 use Rattle.prog_scripts.specs.Commands.{fields_of}
 use Rattle.prog_scripts.specs.Headers.{IsRising}
 

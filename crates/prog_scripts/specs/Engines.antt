@@ -2,8 +2,8 @@
 use Rattle.std.specs.Prelude.{◌≡◌, ℕ, List, Option, Result, Err, IfOk, IfSome}
 use Rattle.std.specs.Io.KnownBytes.{Appends}
 use Rattle.roll_text.specs.Streams.{AppendsPart}
-use Rattle.prog_parts.specs.declared.fault.PlayFault.{PlayFault}
-use Rattle.prog_parts.specs.declared.fault.PlayFault.TheVariants.{Unreadable, Write as CannotWrite}
+use Rattle.prog_scripts.specs.declared.fault.PlayFault.{PlayFault}
+use Rattle.prog_scripts.specs.declared.fault.PlayFault.TheVariants.{Unreadable, Write as CannotWrite}
 
 -- what an output came to, where these bytes were written before and after: all of it was written, if it ended well, and
 -- a front of it but not all, if the writer failed

@@ -6,3 +6,6 @@ pub mod Faults
 pub mod Engines
 pub mod Diagnoses
 pub mod DiagnosisTexts
+pub mod PlayFaults
+pub mod Calls
+pub mod Output

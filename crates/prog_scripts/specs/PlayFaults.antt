@@ -3,8 +3,8 @@ use Rattle.std.specs.Prelude.{ℕ, List, ◌++◌, codes}
 use Rattle.std.specs.Fmt.{decimal}
 use Rattle.roll_text.specs.declared.streams.ReadFault.{ReadFault}
 use Rattle.roll_text.specs.declared.streams.ReadFault.TheVariants.{TooLong, NoMemory as NoMemoryToRead, Read as ReadFails}
-use Rattle.prog_parts.specs.declared.fault.PlayFault.{PlayFault}
-use Rattle.prog_parts.specs.declared.fault.PlayFault.TheVariants.{Unreadable, NoMemory, Read, Write}
+use Rattle.prog_scripts.specs.declared.fault.PlayFault.{PlayFault}
+use Rattle.prog_scripts.specs.declared.fault.PlayFault.TheVariants.{Unreadable, NoMemory, Read, Write}
 
 -- how a fault is told
 abbrev pub fault_text : PlayFault → List ℕ

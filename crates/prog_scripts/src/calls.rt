@@ -1,8 +1,8 @@
 //! The calls of a session that commands ask for.
 ghost use Rattle.std.specs.Prelude.{◌≡◌};
-ghost use Rattle.prog_replies.specs.Calls.{call_of, narrowed};
+ghost use Rattle.prog_scripts.specs.Calls.{call_of, narrowed};
 
-use prog_scripts::Command;
+use crate::command::Command;
 use roll_session::Call;
 
 /// The call that a command asks for. A number that is past those of any player stands for none, as 0 does.

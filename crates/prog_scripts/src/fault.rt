@@ -1,6 +1,6 @@
 //! Why a text was not played.
 ghost use Rattle.std.specs.Prelude.{◌≡◌};
-ghost use Rattle.prog_parts.specs.declared.fault.PlayFault.TheVariants.{NoMemory, Write as CannotWrite};
+ghost use Rattle.prog_scripts.specs.declared.fault.PlayFault.TheVariants.{NoMemory, Write as CannotWrite};
 
 use roll_game::NoMemory as GameFault;
 use roll_text::{ReadFault, WriteFault};
@@ -23,7 +23,7 @@ pub enum PlayFault {
 
 impl Display for PlayFault {
     ghost use Rattle.std.specs.Prelude.{Some};
-    ghost use Rattle.prog_parts.specs.Faults.{fault_text};
+    ghost use Rattle.prog_scripts.specs.PlayFaults.{fault_text};
 
     ghost output = { λ fault. Some (fault_text fault) };
 
@@ -65,7 +65,7 @@ impl From<GameFault> for PlayFault {
 
 impl From<ReadFault> for PlayFault {
     ghost use Rattle.std.specs.Prelude.{◌≡◌};
-    ghost use Rattle.prog_parts.specs.Faults.{fault_of_read};
+    ghost use Rattle.prog_scripts.specs.PlayFaults.{fault_of_read};
 
     ghost from_gives = { λ error fault. fault ≡ fault_of_read error };
 

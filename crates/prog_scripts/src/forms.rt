@@ -1,12 +1,12 @@
 //! What is wrong with a line of a script, a file of rows or a claim.
 ghost use Rattle.std.specs.Prelude.{◌≡◌, ◌≢◌, ◌-◌, [], IfSome, None, drop, slice_index_or, true};
 ghost use Rattle.roll_text.specs.Lines.{lines_of};
-ghost use Rattle.prog_parts.specs.declared.ending.GameName.{GameName};
+ghost use Rattle.prog_scripts.specs.declared.ending.GameName.{GameName};
 ghost use Rattle.prog_scripts.specs.Diagnoses.{IsCommandForm, IsCommandLine, IsOfTask, IsSaidOf, IsTrueInside, IsTrueOf, fields};
 
 use crate::diagnosis::Diagnosis;
 use crate::lines::{ANY, Item, extra_space, fields_fault, path_fault};
-use prog_parts::Task;
+use crate::task::Task;
 use roll_cert::named_number;
 use roll_frame::{FRAME_LIMIT, PATH_LIMIT};
 use roll_text::{number, split_line};

@@ -1,13 +1,13 @@
 //! What is written of a session.
 ghost use Rattle.std.specs.Prelude.{◌≡◌, ◌≢◌, ◌⊎◌, ◌++◌, IfErr, IfOk, OnOk, codes};
-ghost use Rattle.prog_parts.specs.declared.fault.PlayFault.TheVariants.{NoMemory, Write as CannotWrite};
+ghost use Rattle.prog_scripts.specs.declared.fault.PlayFault.TheVariants.{NoMemory, Write as CannotWrite};
 ghost use Rattle.std.specs.Fmt.{decimal};
 ghost use Rattle.roll_session.specs.Seen.{game_of};
 ghost use Rattle.roll_text.specs.Lines.{ended};
 ghost use Rattle.prog_scripts.specs.Engines.{Outputs};
-ghost use Rattle.prog_replies.specs.Output.{IsRefusedAlone, claim_refusal, claim_text, frame_line, refused_line, reply_line};
+ghost use Rattle.prog_scripts.specs.Output.{IsRefusedAlone, claim_refusal, claim_text, frame_line, refused_line, reply_line};
 
-use prog_parts::PlayFault;
+use crate::fault::PlayFault;
 use roll_frame::{Refusal, Reply};
 use roll_game::Shown;
 use roll_session::Session;

@@ -3,12 +3,12 @@ ghost use Rattle.std.specs.Prelude.{◌≡◌, ◌≢◌, ◌<◌, ◌+◌, ◌^
 ghost use Rattle.roll_text.specs.Lines.{text_of as text_of_lines};
 ghost use Rattle.roll_text.specs.Streams.{IsBadAt};
 ghost use Rattle.roll_text.specs.declared.streams.TheConstants.{TEXT_LIMIT};
-ghost use Rattle.prog_parts.specs.declared.fault.PlayFault.TheVariants.{Unreadable, Write as CannotWrite};
+ghost use Rattle.prog_scripts.specs.declared.fault.PlayFault.TheVariants.{Unreadable, Write as CannotWrite};
 ghost use Rattle.prog_scripts.specs.Faults.{TakesAtMost};
 ghost use Rattle.prog_scripts.specs.Plays.{IsPlay, IsScript, play_lines, play_of};
 
+use crate::fault::PlayFault;
 use crate::script::{Script, ScriptFault};
-use prog_parts::PlayFault;
 use roll_text::read_all;
 use std::alloc::Global;
 use std::io::Read;

@@ -18,8 +18,8 @@ use Rattle.roll_session.specs.Seen.{plain}
 use Rattle.roll_session.specs.declared.event.Call.{Call}
 use Rattle.prog_scripts.specs.declared.command.Command.{Command}
 use Rattle.prog_scripts.specs.declared.command.Command.TheVariants.{Local as Gives, Remote as Tells, Disconnect as Leaves, Sync as Syncs, Advance as Advances, Guess, Extend, Claim}
-use Rattle.prog_replies.specs.Calls.{narrowed, call_of}
-use Rattle.prog_replies.specs.Output.{Playing, Texts, after_command, event_text, guessed, refusal_by, refusal_in, reply_line, written_by}
+use Rattle.prog_scripts.specs.Calls.{narrowed, call_of}
+use Rattle.prog_scripts.specs.Output.{Playing, Texts, after_command, event_text, guessed, refusal_by, refusal_in, reply_line, written_by}
 use Rattle.roll_text.specs.Lines.{ended}
 
 -- a number past all players' becomes 0

@@ -3,9 +3,9 @@ use Rattle.std.proofs.Common.{◌≡◌, ℕ, List, Option, Some, None}
 use Rattle.std.specs.Prelude.{IfSome, Result, Err, ⊤, Bool}
 use Rattle.std.proofs.lemmas.Option.{IfSome_then}
 use Rattle.roll_text.specs.Streams.{IsBadAt}
-use Rattle.prog_parts.specs.declared.fault.PlayFault.{PlayFault}
-use Rattle.prog_parts.specs.declared.fault.PlayFault.TheVariants.{Unreadable, NoMemory, Read, Write}
-use Rattle.prog_parts.specs.declared.task.Task.{Task}
+use Rattle.prog_scripts.specs.declared.fault.PlayFault.{PlayFault}
+use Rattle.prog_scripts.specs.declared.fault.PlayFault.TheVariants.{Unreadable, NoMemory, Read, Write}
+use Rattle.prog_scripts.specs.declared.task.Task.{Task}
 use Rattle.prog_scripts.specs.Engines.{Plays}
 use Rattle.roll_cli.specs.Programs.{IsDone, IsFault, IsReadable}
 

@@ -7,8 +7,8 @@ use Rattle.roll_frame.specs.declared.refusal.Refusal.{Refusal}
 use Rattle.roll_frame.specs.declared.refusal.Refusal.TheVariants.{NoMemory}
 use Rattle.roll_session.specs.Guessing.{guess_job_of, guess_refusal_of}
 use Rattle.roll_session.specs.Seen.{Seen, Step}
-use Rattle.prog_replies.specs.Output.{guess_line, guessed, with_job}
-use Rattle.prog_replies.proofs.Refused.{refused_so}
+use Rattle.prog_scripts.specs.Output.{guess_line, guessed, with_job}
+use Rattle.prog_scripts.proofs.Refused.{refused_so}
 use Rattle.roll_cli.specs.Playings.{Played, game_of}
 
 -- a script that is being played, by its session and its jobs

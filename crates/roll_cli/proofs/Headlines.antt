@@ -21,7 +21,7 @@ use Rattle.roll_session.specs.Headline.{AreTurns, IsByTheRules, Turn}
 use Rattle.roll_text.specs.Lines.{ended}
 use Rattle.roll_session.specs.Started.{first_seen}
 use Rattle.roll_cli.specs.Headlines.{events_from, line_of, lines_from, HasHeadline, IsHeadlined, IsHeadlinedDuel, IsHeadlinedOutput}
-use Rattle.prog_replies.specs.Output.{Playing, Texts, after_command, asked_by, duel_game, duel_output, duel_refusals, event_text, first_playing, job_at, output, refusals, reply_line, IsOutput}
+use Rattle.prog_scripts.specs.Output.{Playing, Texts, after_command, asked_by, duel_game, duel_output, duel_refusals, event_text, first_playing, job_at, output, refusals, reply_line, IsOutput}
 use Rattle.prog_scripts.specs.Headers.{settings_of}
 use Rattle.prog_scripts.specs.Plays.{Play}
 use Rattle.roll_duel.specs.Text.{duel_text}

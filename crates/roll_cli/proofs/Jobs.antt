@@ -8,7 +8,7 @@ use Rattle.roll_frame.specs.declared.refusal.Refusal.{Refusal}
 use Rattle.roll_frame.specs.declared.settings.Settings.{Settings}
 use Rattle.prog_scripts.specs.declared.command.Command.{Command}
 use Rattle.prog_scripts.specs.declared.command.Command.TheVariants.{Local as Gives, Remote as Tells, Disconnect as Leaves, Sync as Syncs, Advance as Advances, Guess, Extend, Claim}
-use Rattle.prog_replies.specs.Output.{Playing, after_command, guessed, with_job}
+use Rattle.prog_scripts.specs.Output.{Playing, after_command, guessed, with_job}
 
 -- a command gives at most one job
 with_job_within : (jobs : List (Option Routed)) (result : Result (Option Routed) Refusal) → length (with_job jobs result) ≤ length jobs + 1

@@ -12,12 +12,12 @@ use Rattle.roll_session.specs.Started.{first_seen}
 use Rattle.roll_text.specs.Lines.{ended}
 use Rattle.roll_text.specs.declared.streams.TheConstants.{TEXT_LIMIT}
 use Rattle.prog_scripts.specs.declared.command.Command.{Command}
-use Rattle.prog_replies.specs.Output.{Texts, first_playing, output_under, refusals_under, refused_line, refusals_from, written_from}
+use Rattle.prog_scripts.specs.Output.{Texts, first_playing, output_under, refusals_under, refused_line, refusals_from, written_from}
 use Rattle.roll_cli.specs.Playings.{Played}
 use Rattle.prog_scripts.specs.Headers.{Setup, header_of}
 use Rattle.prog_scripts.specs.Plays.{IsOutlined}
 use Rattle.roll_cli.proofs.Guessed.{played_of}
-use Rattle.prog_replies.proofs.Refused.{refused_so}
+use Rattle.prog_scripts.proofs.Refused.{refused_so}
 
 -- what a session that starts writes, and how many of the replies are refusals
 pub written_started : (texts : Texts) (game : Game) (commands : List Command) (settings : Settings) → start_refusal settings ≡ None

@@ -9,7 +9,7 @@ use Rattle.roll_text.specs.Lines.{ended, text_of}
 use Rattle.prog_scripts.specs.declared.command.Command.{Command}
 use Rattle.prog_scripts.specs.Commands.{IsCommand, line_of}
 use Rattle.prog_scripts.specs.Headers.{Setup, header_of}
-use Rattle.prog_replies.specs.Output.{IsOutput, IsOutputAfter, Playing, Texts, after_command, refused_by, refusals_from, written_by, written_from}
+use Rattle.prog_scripts.specs.Output.{IsOutput, IsOutputAfter, Playing, Texts, after_command, refused_by, refusals_from, written_by, written_from}
 use Rattle.prog_scripts.specs.Plays.{AreCommands, IsOutlined, Play}
 use Rattle.roll_cli.proofs.Jobs.{jobs_within}
 use Rattle.roll_text.proofs.LineTexts.{text_of-next}

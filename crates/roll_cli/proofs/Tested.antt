@@ -17,7 +17,7 @@ use Rattle.roll_synctest.specs.declared.verdict.Verdict.{Verdict}
 use Rattle.roll_synctest.specs.declared.verdict.Verdict.TheVariants.{Run, Verified, Mismatch}
 use Rattle.roll_text.specs.Lines.{ended, text_of}
 use Rattle.roll_cli.specs.SyncTests.{AreSaid, IsMismatched, IsTold, is_startable, sync_output, verdict_line, verdict_of, verdicts_of}
-use Rattle.prog_replies.specs.Output.{refused_line}
+use Rattle.prog_scripts.specs.Output.{refused_line}
 
 -- rows lead on from where others led
 reached-append : (ran : Ran) (x : Value) (rows : Rows) (y : Value) (more : Rows) (z : Value) → IsReached ran x rows y → IsReached ran y more z → IsReached ran x (rows ++ more) z

@@ -13,9 +13,9 @@ use Rattle.roll_session.specs.Seen.{Seen}
 use Rattle.roll_session.specs.Headline.{Turn}
 use Rattle.roll_text.specs.Lines.{ended}
 use Rattle.prog_scripts.specs.Headers.{settings_of}
-use Rattle.prog_replies.specs.Output.{Playing, Texts, after_command, asked_by, event_text}
-use Rattle.prog_replies.specs.Output.{duel_game, duel_output, duel_refusals}
-use Rattle.prog_replies.specs.Output.{first_playing, output, refusals, reply_line, IsOutput}
+use Rattle.prog_scripts.specs.Output.{Playing, Texts, after_command, asked_by, event_text}
+use Rattle.prog_scripts.specs.Output.{duel_game, duel_output, duel_refusals}
+use Rattle.prog_scripts.specs.Output.{first_playing, output, refusals, reply_line, IsOutput}
 use Rattle.roll_session.specs.Started.{first_seen}
 use Rattle.prog_scripts.specs.Plays.{Play}
 use Rattle.roll_duel.specs.Text.{duel_text}

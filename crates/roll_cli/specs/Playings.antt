@@ -2,7 +2,7 @@
 use Rattle.roll_frame.specs.Games.{Game, Value}
 use Rattle.roll_frame.specs.declared.settings.Settings.{Settings}
 use Rattle.roll_session.specs.Seen.{Step}
-use Rattle.prog_replies.specs.Output.{Playing}
+use Rattle.prog_scripts.specs.Output.{Playing}
 
 -- how its session was opened, and what it has come to
 pub record Played : Type 0 where

@@ -3,14 +3,14 @@ use Rattle.std.specs.Prelude.{◌≡◌, ◌==◌, ℕ, List, Bool, if◌then◌
 use Rattle.std.specs.Io.KnownBytes.{Appends}
 use Rattle.roll_cert.specs.Texts.{IsClaimText}
 use Rattle.roll_text.specs.Streams.{AppendsPart, IsBadAt}
-use Rattle.prog_parts.specs.declared.fault.PlayFault.{PlayFault}
-use Rattle.prog_parts.specs.declared.fault.PlayFault.TheVariants.{Unreadable, NoMemory, Read, Write}
-use Rattle.prog_parts.specs.declared.ending.Ending.{Ending}
-use Rattle.prog_parts.specs.declared.ending.GameName.TheVariants.{Tally, Duel}
-use Rattle.prog_parts.specs.declared.task.Task.{Task}
-use Rattle.prog_parts.specs.declared.task.Task.TheVariants.{Play, SyncTest, Certify}
+use Rattle.prog_scripts.specs.declared.fault.PlayFault.{PlayFault}
+use Rattle.prog_scripts.specs.declared.fault.PlayFault.TheVariants.{Unreadable, NoMemory, Read, Write}
+use Rattle.prog_scripts.specs.declared.ending.Ending.{Ending}
+use Rattle.prog_scripts.specs.declared.ending.GameName.TheVariants.{Tally, Duel}
+use Rattle.prog_scripts.specs.declared.task.Task.{Task}
+use Rattle.prog_scripts.specs.declared.task.Task.TheVariants.{Play, SyncTest, Certify}
 use Rattle.roll_cli.specs.Certified.{IsCertified}
-use Rattle.prog_replies.specs.Output.{IsOutput, output, refusals, tally_game, duel_output, duel_refusals}
+use Rattle.prog_scripts.specs.Output.{IsOutput, output, refusals, tally_game, duel_output, duel_refusals}
 use Rattle.prog_scripts.specs.Plays.{IsScript}
 use Rattle.prog_scripts.specs.RowsFiles.{IsRowsText}
 use Rattle.roll_cli.specs.SyncTests.{IsDuelSynced, IsTallySynced}

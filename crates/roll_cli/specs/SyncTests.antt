@@ -11,7 +11,7 @@ use Rattle.roll_synctest.specs.Tests.{start_refusal}
 use Rattle.roll_synctest.specs.declared.verdict.Verdict.{Verdict}
 use Rattle.roll_synctest.specs.declared.verdict.Verdict.TheVariants.{Run, Verified, Mismatch}
 use Rattle.roll_text.specs.Lines.{ended, text_of}
-use Rattle.prog_replies.specs.Output.{refused_line}
+use Rattle.prog_scripts.specs.Output.{refused_line}
 use Rattle.prog_scripts.specs.RowsFiles.{RowsFile, IsRowsFile, file_lines}
 
 abbrev pub verdict_line : Verdict → List ℕ

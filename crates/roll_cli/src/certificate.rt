@@ -6,13 +6,13 @@ ghost use Rattle.roll_text.specs.Lines.{ended, text_of};
 ghost use Rattle.roll_text.specs.Streams.{IsBadAt};
 ghost use Rattle.roll_text.specs.declared.streams.TheConstants.{TEXT_LIMIT};
 ghost use Rattle.roll_cert.specs.Texts.{IsClaimText, IsSized, claim_lines};
-ghost use Rattle.prog_parts.specs.declared.fault.PlayFault.TheVariants.{NoMemory, Unreadable};
-ghost use Rattle.prog_parts.specs.declared.fault.PlayFault.TheVariants.{Write as CannotWrite};
+ghost use Rattle.prog_scripts.specs.declared.fault.PlayFault.TheVariants.{NoMemory, Unreadable};
+ghost use Rattle.prog_scripts.specs.declared.fault.PlayFault.TheVariants.{Write as CannotWrite};
 ghost use Rattle.prog_scripts.specs.Engines.{Outputs, Plays};
 ghost use Rattle.prog_scripts.specs.Faults.{TakesAtMost, fault_of_claim};
 ghost use Rattle.roll_cli.specs.Certified.{IsAnswered, IsCertified, right_line, wrong_line};
 
-use prog_parts::PlayFault;
+use prog_scripts::PlayFault;
 use roll_cert::{Flaw, check};
 use roll_frame::{Claim, Refusal};
 use roll_text::{read_all, write_all};

@@ -2,20 +2,18 @@
 ghost use Rattle.std.specs.Prelude.{◌≡◌, ◌⊎◌, ◌<◌, ◌+◌, ◌^◌, ◌++◌, List, IfErr, IfOk, length};
 ghost use Rattle.roll_text.specs.Streams.{IsBadAt};
 ghost use Rattle.roll_text.specs.declared.streams.TheConstants.{TEXT_LIMIT};
-ghost use Rattle.prog_parts.specs.declared.fault.PlayFault.TheVariants.{NoMemory, Write as CannotWrite};
+ghost use Rattle.prog_scripts.specs.declared.fault.PlayFault.TheVariants.{NoMemory, Write as CannotWrite};
 ghost use Rattle.prog_scripts.specs.Engines.{Outputs, Plays};
 ghost use Rattle.prog_scripts.specs.Faults.{TakesAtMost};
 ghost use Rattle.prog_scripts.specs.Headers.{IsSetup, setup_of};
 ghost use Rattle.prog_scripts.specs.Plays.{AreCommands, IsScript};
 ghost use Rattle.prog_scripts.specs.declared.command.Command.{Command};
-ghost use Rattle.prog_replies.specs.Output.{IsOutputAfter, duel_output, duel_refusals, game_from};
-ghost use Rattle.prog_replies.specs.Output.{output, output_under, refusals, refusals_under};
+ghost use Rattle.prog_scripts.specs.Output.{IsOutputAfter, duel_output, duel_refusals, game_from};
+ghost use Rattle.prog_scripts.specs.Output.{output, output_under, refusals, refusals_under};
 ghost use Rattle.roll_cli.specs.Headlines.{IsHeadlinedDuel, IsHeadlinedOutput};
 
 use crate::playing::Playing;
-use prog_parts::PlayFault;
-use prog_replies::{push_not_started, write_not_started};
-use prog_scripts::{Header, outline};
+use prog_scripts::{Header, PlayFault, outline, push_not_started, write_not_started};
 use roll_duel::Duel;
 use roll_frame::{Refusal, Settings};
 use roll_game::Shown;

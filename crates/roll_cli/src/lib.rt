@@ -14,9 +14,10 @@ mod sync_test;
 pub use certificate::certify;
 pub use engine::{play, play_duel};
 pub use playing::Playing;
-pub use prog_parts::{Ending, GameName, PlayFault, Task};
-pub use prog_replies::{call, player_number};
-pub use prog_scripts::{Command, Header, RowsFile, Script, ScriptFault, Version};
+pub use prog_scripts::{
+    Command, Ending, GameName, Header, PlayFault, RowsFile, Script, ScriptFault, Task, Version,
+    call, player_number,
+};
 pub use program::run;
 pub use roll_game::Shown;
 pub use sync_test::synctest;

@@ -4,14 +4,14 @@ ghost use Rattle.std.specs.Result.{result_err};
 ghost use Rattle.roll_frame.specs.Events.{after, reply};
 ghost use Rattle.roll_session.specs.Calls.{asked};
 ghost use Rattle.roll_text.specs.Lines.{ended};
-ghost use Rattle.prog_replies.specs.Output.{after_command, event_text, guess_line, guessed, job_at, refusal_by, refusal_in, refusals_from, with_job, written_by, written_from};
+ghost use Rattle.prog_scripts.specs.Output.{after_command, event_text, guess_line, guessed, job_at, refusal_by, refusal_in, refusals_from, with_job, written_by, written_from};
 ghost use Rattle.roll_cli.specs.Playings.{game_of};
 ghost use Rattle.prog_scripts.specs.Plays.{AreCommands};
 ghost use Rattle.prog_scripts.specs.declared.command.Command.{Command};
 
-use prog_parts::PlayFault;
-use prog_replies::{call, player_number, push_claim, push_job, push_reply};
-use prog_scripts::{Command, first_command};
+use prog_scripts::{
+    Command, PlayFault, call, first_command, player_number, push_claim, push_job, push_reply,
+};
 use roll_branch::{Done, Job, extend};
 use roll_frame::{Refusal, Reply};
 use roll_game::{Game, Shown};

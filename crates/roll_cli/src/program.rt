@@ -3,19 +3,19 @@ ghost use Rattle.std.specs.Prelude.{◌≡◌, ◌≤◌, ◌⊎◌, ◌+◌, If
 ghost use Rattle.roll_game.specs.Shown.{tally_text};
 ghost use Rattle.roll_text.specs.Streams.{IsBadAt};
 ghost use Rattle.roll_text.specs.declared.streams.TheConstants.{TEXT_LIMIT};
-ghost use Rattle.prog_parts.specs.declared.fault.PlayFault.TheVariants.{Write as CannotWrite};
-ghost use Rattle.prog_parts.specs.declared.task.Task.TheVariants.{Play, SyncTest};
+ghost use Rattle.prog_scripts.specs.declared.fault.PlayFault.TheVariants.{Write as CannotWrite};
+ghost use Rattle.prog_scripts.specs.declared.task.Task.TheVariants.{Play, SyncTest};
 ghost use Rattle.prog_scripts.specs.Engines.{Plays};
 ghost use Rattle.prog_scripts.specs.Faults.{TakesAtMost};
 ghost use Rattle.prog_scripts.specs.Plays.{IsScript};
-ghost use Rattle.prog_replies.specs.Output.{tally_game};
+ghost use Rattle.prog_scripts.specs.Output.{tally_game};
 ghost use Rattle.roll_cli.specs.Headlines.{IsHeadlinedOutput};
 ghost use Rattle.roll_cli.specs.Programs.{Ends, IsDone, IsReadable};
 
 use crate::certificate::certify;
 use crate::engine::{play, play_duel};
 use crate::sync_test::{synctest_duel, synctest_tally};
-use prog_parts::{Ending, GameName, PlayFault, Task};
+use prog_scripts::{Ending, GameName, PlayFault, Task};
 use roll_game::Tally;
 use std::alloc::Global;
 use std::io::{Read, Write};

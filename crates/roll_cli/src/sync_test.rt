@@ -5,17 +5,15 @@ ghost use Rattle.roll_synctest.specs.declared.verdict.Verdict.{Verdict as Verdic
 ghost use Rattle.roll_text.specs.Lines.{ended, text_of};
 ghost use Rattle.roll_text.specs.Streams.{IsBadAt};
 ghost use Rattle.roll_text.specs.declared.streams.TheConstants.{TEXT_LIMIT};
-ghost use Rattle.prog_parts.specs.declared.fault.PlayFault.TheVariants.{NoMemory, Unreadable};
-ghost use Rattle.prog_parts.specs.declared.fault.PlayFault.TheVariants.{Write as CannotWrite};
+ghost use Rattle.prog_scripts.specs.declared.fault.PlayFault.TheVariants.{NoMemory, Unreadable};
+ghost use Rattle.prog_scripts.specs.declared.fault.PlayFault.TheVariants.{Write as CannotWrite};
 ghost use Rattle.prog_scripts.specs.Engines.{Outputs, Plays};
 ghost use Rattle.prog_scripts.specs.Faults.{TakesAtMost};
 ghost use Rattle.prog_scripts.specs.RowsFiles.{IsRowsFile, IsRowsText, file_lines, file_of};
 ghost use Rattle.roll_cli.specs.SyncTests.{AreSaid, IsDuelSynced, IsDuelTold, IsTallySynced, IsTested};
 ghost use Rattle.roll_cli.specs.SyncTests.{IsTold, is_startable, verdict_line};
 
-use prog_parts::PlayFault;
-use prog_replies::{push_named, push_not_started, write_not_started};
-use prog_scripts::RowsFile;
+use prog_scripts::{PlayFault, RowsFile, push_named, push_not_started, write_not_started};
 use roll_duel::Duel;
 use roll_frame::{Refusal, Row};
 use roll_game::{RawGame, Tally, never_diverges};

@@ -64,7 +64,7 @@ impl<G: Game> Host<G> {
     /// A pump stands for the items that it applied, an absorb for the branches that it grafted, a call of the session
     /// for itself, and all others for no event. The session is that after these events, whatever the threads did, and
     /// its headline holds over all of them; only the copies that guesses had made, and what `reserve_log` reserved,
-    /// come on top. So laws of sessions hold of hosts: `crates/test_threads/src/host_laws.rt` takes some.
+    /// come on top. So laws of sessions hold of hosts: `crates/test_laws/src/host_laws.rt` takes some.
     ///
     /// # Errors
     ///

@@ -10,13 +10,13 @@ use Rattle.roll_frame.specs.declared.settings.Settings.{Settings}
 use Rattle.roll_game.specs.declared.counts.Counts.{Counts}
 use Rattle.roll_session.specs.Seen.{Seen}
 use Rattle.roll_text.specs.Lines.{ended}
-use Rattle.prog_replies.specs.Output.{Texts, refused_line}
+use Rattle.prog_scripts.specs.Output.{Texts, refused_line}
 use Rattle.prog_scripts.specs.Engines.{Plays}
 use Rattle.prog_scripts.specs.declared.command.Command.{Command}
-use Rattle.prog_parts.specs.declared.fault.PlayFault.{PlayFault}
-use Rattle.prog_parts.specs.declared.fault.PlayFault.TheVariants.{Unreadable, NoMemory, Read, Write}
-use Rattle.prog_parts.specs.declared.ending.GameName.{GameName}
-use Rattle.prog_replies.proofs.Refused.{refused_so}
+use Rattle.prog_scripts.specs.declared.fault.PlayFault.{PlayFault}
+use Rattle.prog_scripts.specs.declared.fault.PlayFault.TheVariants.{Unreadable, NoMemory, Read, Write}
+use Rattle.prog_scripts.specs.declared.ending.GameName.{GameName}
+use Rattle.prog_scripts.proofs.Refused.{refused_so}
 use Rattle.roll_session.specs.Started.{first_seen}
 use Rattle.roll_live.specs.Lives.{FarOf, IsFault, IsOutput, IsUnreadable, WritesOf, WritesUnder}
 

@@ -12,8 +12,8 @@ use Rattle.roll_session.proofs.Headlines.{headline_of, AreAsked}
 use Rattle.roll_session.proofs.Runs.{played_more, played_none}
 use Rattle.roll_session.specs.Answered.{IsPlayed}
 use Rattle.roll_session.specs.Seen.{FollowsLog, Seen, Step, plain}
-use Rattle.prog_replies.specs.Calls.{narrowed}
-use Rattle.prog_replies.specs.Output.{Texts}
+use Rattle.prog_scripts.specs.Calls.{narrowed}
+use Rattle.prog_scripts.specs.Output.{Texts}
 use Rattle.prog_scripts.specs.declared.command.Command.{Command}
 use Rattle.prog_scripts.specs.declared.command.Command.TheVariants.{Local as Gives, Remote as Tells, Disconnect as Leaves, Sync as Syncs, Advance as Advances, Guess, Extend, Claim}
 use Rattle.roll_live.specs.Headlines.{all_events, but_guesses, events_told, HasHeadline}

@@ -10,7 +10,7 @@ use Rattle.roll_host.specs.Heard.{AreHeard}
 use Rattle.roll_link.specs.declared.remote.Remote.{Remote}
 use Rattle.roll_session.proofs.Runs.{played_none}
 use Rattle.roll_session.specs.Seen.{Seen, Step}
-use Rattle.prog_replies.specs.Output.{Texts}
+use Rattle.prog_scripts.specs.Output.{Texts}
 use Rattle.prog_scripts.specs.declared.command.Command.{Command}
 use Rattle.roll_live.specs.Told.{Line, IsTold}
 use Rattle.roll_live.specs.Tellings.{AreTold, IsLive, Telling}

@@ -8,8 +8,8 @@ use Rattle.roll_frame.specs.Games.{Game}
 use Rattle.roll_frame.specs.Paths.{run}
 use Rattle.roll_frame.specs.declared.row.Cell.{Cell}
 use Rattle.roll_session.specs.Held.{Shows}
-use Rattle.prog_replies.specs.Output.{Texts}
-use Rattle.prog_replies.proofs.Written.{no_rows}
+use Rattle.prog_scripts.specs.Output.{Texts}
+use Rattle.prog_scripts.proofs.Written.{no_rows}
 use Rattle.roll_live.specs.Told.{state_line}
 
 some_rows : {S : Type 0} (value : S → List ℕ) (step : List ℕ → List Cell → List ℕ) (x : List ℕ) (shown : Option Rows) (state : S) → Shows value step x shown (Some state)

@@ -7,8 +7,8 @@ use Rattle.roll_session.specs.Answered.{replies_to}
 use Rattle.roll_session.specs.Calls.{grafting}
 use Rattle.roll_session.specs.Headline.{Headline}
 use Rattle.roll_session.specs.Seen.{Seen, Step, plain}
-use Rattle.prog_replies.specs.Calls.{narrowed}
-use Rattle.prog_replies.specs.Output.{Texts}
+use Rattle.prog_scripts.specs.Calls.{narrowed}
+use Rattle.prog_scripts.specs.Output.{Texts}
 use Rattle.prog_scripts.specs.declared.command.Command.{Command}
 use Rattle.prog_scripts.specs.declared.command.Command.TheVariants.{Local as Gives, Remote as Tells}
 use Rattle.prog_scripts.specs.declared.command.Command.TheVariants.{Disconnect as Leaves, Sync as Syncs}

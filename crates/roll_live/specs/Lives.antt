@@ -12,16 +12,16 @@ use Rattle.roll_text.specs.Lines.{text_of}
 use Rattle.roll_text.specs.Streams.{AppendsPart, IsBadAt}
 use Rattle.prog_scripts.specs.Headers.{settings_of}
 use Rattle.roll_session.specs.Started.{first_seen}
-use Rattle.prog_replies.specs.Output.{IsRefusedAlone, Texts, duel_game, tally_game}
+use Rattle.prog_scripts.specs.Output.{IsRefusedAlone, Texts, duel_game, tally_game}
 use Rattle.prog_scripts.specs.Plays.{IsPlay, IsScript, Play, play_lines}
 use Rattle.roll_duel.specs.Text.{duel_text}
 use Rattle.roll_game.specs.Shown.{tally_text}
 use Rattle.prog_scripts.specs.declared.command.Command.{Command}
-use Rattle.prog_parts.specs.declared.fault.PlayFault.{PlayFault}
-use Rattle.prog_parts.specs.declared.fault.PlayFault.TheVariants.{Unreadable, NoMemory, Read, Write}
-use Rattle.prog_parts.specs.declared.ending.Ending.{Ending}
-use Rattle.prog_parts.specs.declared.ending.GameName.{GameName}
-use Rattle.prog_parts.specs.declared.ending.GameName.TheVariants.{Tally, Duel}
+use Rattle.prog_scripts.specs.declared.fault.PlayFault.{PlayFault}
+use Rattle.prog_scripts.specs.declared.fault.PlayFault.TheVariants.{Unreadable, NoMemory, Read, Write}
+use Rattle.prog_scripts.specs.declared.ending.Ending.{Ending}
+use Rattle.prog_scripts.specs.declared.ending.GameName.{GameName}
+use Rattle.prog_scripts.specs.declared.ending.GameName.TheVariants.{Tally, Duel}
 use Rattle.roll_live.specs.Headlines.{HasHeadline}
 use Rattle.roll_live.specs.Tellings.{IsLive}
 use Rattle.roll_live.specs.Told.{IsFar}

@@ -2,7 +2,7 @@
 use Rattle.std.specs.Prelude.{◌≡◌, ℕ, List, [], ◌∷◌, count_by, map}
 use Rattle.std.specs.List.{flat_map}
 use Rattle.roll_session.specs.Seen.{Seen, Step}
-use Rattle.prog_replies.specs.Output.{Texts}
+use Rattle.prog_scripts.specs.Output.{Texts}
 use Rattle.prog_scripts.specs.declared.command.Command.{Command}
 use Rattle.roll_live.specs.Told.{Line, IsTold}
 

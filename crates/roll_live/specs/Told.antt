@@ -18,8 +18,8 @@ use Rattle.roll_session.specs.Answered.{IsPlayed, IsReplied}
 use Rattle.roll_session.specs.Calls.{grafting}
 use Rattle.roll_session.specs.Seen.{Seen, Step, game_of, plain}
 use Rattle.roll_text.specs.Lines.{ended}
-use Rattle.prog_replies.specs.Calls.{narrowed}
-use Rattle.prog_replies.specs.Output.{Texts, is_refused, reply_line}
+use Rattle.prog_scripts.specs.Calls.{narrowed}
+use Rattle.prog_scripts.specs.Output.{Texts, is_refused, reply_line}
 use Rattle.prog_scripts.specs.declared.command.Command.{Command}
 use Rattle.prog_scripts.specs.declared.command.Command.TheVariants.{Local as Gives, Remote as Tells, Disconnect as Leaves, Sync as Syncs, Advance as Advances, Guess, Extend, Claim}
 use Rattle.roll_live.specs.declared.playing.TheConstants.{AHEAD_LIMIT}

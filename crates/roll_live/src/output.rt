@@ -4,8 +4,7 @@ ghost use Rattle.roll_session.specs.Seen.{game_of};
 ghost use Rattle.roll_text.specs.Lines.{ended};
 ghost use Rattle.roll_live.specs.Told.{live_line, state_line};
 
-use prog_parts::PlayFault;
-use prog_replies::{push_named, push_reply};
+use prog_scripts::{PlayFault, push_named, push_reply};
 use roll_frame::Reply;
 use roll_game::Shown;
 use roll_session::Session;

@@ -7,15 +7,13 @@ ghost use Rattle.roll_host.specs.Hosted.{places_of};
 ghost use Rattle.roll_link.specs.declared.remote.Remote.{Remote as Item};
 ghost use Rattle.roll_session.specs.Answered.{IsPlayed};
 ghost use Rattle.roll_session.specs.Calls.{event_of as event_of_call, grafting};
-ghost use Rattle.prog_replies.specs.Output.{is_refused as refuses};
+ghost use Rattle.prog_scripts.specs.Output.{is_refused as refuses};
 ghost use Rattle.roll_live.specs.Lives.{IsFarAt};
 ghost use Rattle.roll_live.specs.Tellings.{IsLive};
 ghost use Rattle.roll_live.specs.Told.{guessed_counts, item_reply as replied_by, items_of, IsAsked, IsFar, IsHeard, IsTold};
 
 use crate::output::push_line;
-use prog_parts::PlayFault;
-use prog_replies::{call, player_number};
-use prog_scripts::Command;
+use prog_scripts::{Command, PlayFault, call, player_number};
 use roll_frame::{Refusal, Reply};
 use roll_game::{Game, Shown};
 use roll_host::{Host, HostReply, HostRequest};

@@ -3,18 +3,16 @@ ghost use Rattle.std.specs.Prelude.{◌≡◌, ◌≤◌, ◌⊎◌, ◌+◌, �
 ghost use Rattle.std.specs.Prelude.{length, vec_len};
 ghost use Rattle.roll_pool.specs.declared.owner.TheConstants.{WORKER_LIMIT as TEAM};
 ghost use Rattle.roll_text.specs.declared.streams.TheConstants.{TEXT_LIMIT};
-ghost use Rattle.prog_parts.specs.declared.ending.GameName.TheVariants.{Duel as DuelName};
-ghost use Rattle.prog_parts.specs.declared.fault.PlayFault.TheVariants.{NoMemory, Unreadable};
-ghost use Rattle.prog_parts.specs.declared.fault.PlayFault.TheVariants.{Write as CannotWrite};
+ghost use Rattle.prog_scripts.specs.declared.ending.GameName.TheVariants.{Duel as DuelName};
+ghost use Rattle.prog_scripts.specs.declared.fault.PlayFault.TheVariants.{NoMemory, Unreadable};
+ghost use Rattle.prog_scripts.specs.declared.fault.PlayFault.TheVariants.{Write as CannotWrite};
 ghost use Rattle.prog_scripts.specs.Engines.{Outputs, Plays};
 ghost use Rattle.prog_scripts.specs.Faults.{TakesAtMost};
 ghost use Rattle.prog_scripts.specs.Plays.{IsPlay, play_of};
 ghost use Rattle.roll_live.specs.Lives.{DuelWrites, Ends, FarOf, IsOutput, IsUnreadable, WritesOf};
 
 use crate::engine::{live, write_live};
-use prog_parts::{Ending, GameName, PlayFault};
-use prog_replies::write_not_started;
-use prog_scripts::{Script, read_script};
+use prog_scripts::{Ending, GameName, PlayFault, Script, read_script, write_not_started};
 use roll_duel::Duel;
 use roll_frame::Refusal;
 use roll_game::Tally;

@@ -3,7 +3,7 @@
 //!
 //! At most one worker runs a job, and none is lost. That shows at the end: `Owner::settle` takes all ends back, and
 //! finds each job that was issued in one place. That a worker finds the jobs that are there, and wakes for them, no
-//! clause says: tests show it (`tests/runs/workers.t`, and on threads `crates/test_threads/src/workers.rt`).
+//! clause says: tests show it (`tests/runs/workers.t`, and on threads `tests/rattle/test_threads`).
 //!
 //! Only what has `Wait` or `Threads` in its bounds waits for another thread: `serve`, `join`, and `start_all` if it
 //! fails.

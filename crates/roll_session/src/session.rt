@@ -683,7 +683,7 @@ impl<G: Game> Session<G> {
 
     /// Puts another engine of the same game in the game's place, and hands out the one that was there: to take from it
     /// what it has gathered beside its states, such as sounds to play. A clause sees of an engine its counts alone:
-    /// that the new one runs from then on, and the old one comes out, is tested (`crates/test_parts/src/swap.rt`).
+    /// that the new one runs from then on, and the old one comes out, is tested (`tests/rattle/test_parts`).
     pub fn swap_game(&mut self, game: G) -> G
         ensures out { G.call_counts result ≡ self.old.counts }
         ensures put { self.new ≡ record self.old { counts = G.call_counts game } }

@@ -6,9 +6,9 @@ use Rattle.clap.specs.Kinds.{HasKind, IsAmong, Kinds}
 use Rattle.clap.specs.Values.{kind_of}
 use Rattle.clap.specs.declared.error.Error.{Error}
 use Rattle.clap.specs.declared.error.kind.ErrorKind.{ErrorKind}
-use Rattle.prog_parts.specs.declared.ending.Ending.{Ending}
-use Rattle.prog_parts.specs.declared.fault.PlayFault.{PlayFault}
-use Rattle.prog_parts.specs.declared.fault.PlayFault.TheVariants.{NoMemory}
+use Rattle.prog_scripts.specs.declared.ending.Ending.{Ending}
+use Rattle.prog_scripts.specs.declared.fault.PlayFault.{PlayFault}
+use Rattle.prog_scripts.specs.declared.fault.PlayFault.TheVariants.{NoMemory}
 use Rattle.rollduel.specs.Endings.{EndsRefused, EndsUnpictured, IsPrinted, IsTold, IsToldOfOne, faulted, misused, picture_after, to_save}
 use Rattle.rollduel.specs.declared.picture.Done.{Done}
 use Rattle.rollduel.specs.Requests.{Asked, IfRefused, live, on_text, refused}

@@ -5,9 +5,9 @@ use Rattle.clap.proofs.OnLiterals.{clap_on_literals}
 use Rattle.clap.specs.Faults.{fault_of}
 use Rattle.prog_command_line.specs.Commands.{rollduel_app}
 use Rattle.prog_command_line.specs.declared.picture.OptionFault.TheVariants.{ManyFrames, NoFrames, NoPicture}
-use Rattle.prog_parts.specs.declared.ending.Ending.{Ending}
-use Rattle.prog_parts.specs.declared.ending.GameName.TheVariants.{Tally, Duel}
-use Rattle.prog_parts.specs.declared.task.Task.TheVariants.{Play, SyncTest, Certify}
+use Rattle.prog_scripts.specs.declared.ending.Ending.{Ending}
+use Rattle.prog_scripts.specs.declared.ending.GameName.TheVariants.{Tally, Duel}
+use Rattle.prog_scripts.specs.declared.task.Task.TheVariants.{Play, SyncTest, Certify}
 use Rattle.rollduel.specs.Endings.{EndsRefused}
 use Rattle.rollduel.specs.Requests.{asked_by, live, on_text, picture_by, refused}
 

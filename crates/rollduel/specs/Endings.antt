@@ -3,14 +3,14 @@ use Rattle.std.specs.Prelude.{◌≡◌, ◌≢◌, ◌≤◌, ◌⊎◌, ℕ, L
 use Rattle.clap.specs.Kinds.{Kinds}
 use Rattle.clap.specs.declared.error.kind.ErrorKind.{ErrorKind}
 use Rattle.clap.specs.declared.error.kind.ErrorKind.TheVariants.{DisplayHelp, DisplayVersion, OutOfMemory}
-use Rattle.prog_parts.specs.declared.fault.PlayFault.{PlayFault}
-use Rattle.prog_parts.specs.declared.fault.PlayFault.TheVariants.{NoMemory, Read, Write}
-use Rattle.prog_parts.specs.declared.ending.Ending.{Ending}
+use Rattle.prog_scripts.specs.declared.fault.PlayFault.{PlayFault}
+use Rattle.prog_scripts.specs.declared.fault.PlayFault.TheVariants.{NoMemory, Read, Write}
+use Rattle.prog_scripts.specs.declared.ending.Ending.{Ending}
 use Rattle.clap.specs.Walk.{Text}
 use Rattle.std.specs.declared.alloc.Global.{Global}
 use Rattle.std.specs.declared.string.String.{String}
 use Rattle.prog_explain.specs.Pictured.{IsShown}
-use Rattle.prog_parts.specs.declared.task.Task.{Task}
+use Rattle.prog_scripts.specs.declared.task.Task.{Task}
 use Rattle.prog_picture.specs.declared.scene.Window.{Window}
 use Rattle.rollduel.specs.declared.picture.Done.{Done}
 use Rattle.prog_command_line.specs.declared.picture.OptionFault.{OptionFault}

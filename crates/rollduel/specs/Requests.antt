@@ -11,10 +11,10 @@ use Rattle.prog_command_line.specs.declared.request.LiveOptions.{LiveOptions}
 use Rattle.prog_command_line.specs.declared.request.TextRequest.{TextRequest as AskedText}
 use Rattle.prog_command_line.specs.declared.request.TextTask.{TextTask}
 use Rattle.prog_command_line.specs.declared.request.TextTask.TheVariants as task
-use Rattle.prog_parts.specs.declared.ending.GameName.{GameName}
-use Rattle.prog_parts.specs.declared.ending.GameName.TheVariants.{Tally, Duel}
-use Rattle.prog_parts.specs.declared.task.Task.{Task}
-use Rattle.prog_parts.specs.declared.task.Task.TheVariants.{Play, SyncTest, Certify}
+use Rattle.prog_scripts.specs.declared.ending.GameName.{GameName}
+use Rattle.prog_scripts.specs.declared.ending.GameName.TheVariants.{Tally, Duel}
+use Rattle.prog_scripts.specs.declared.task.Task.{Task}
+use Rattle.prog_scripts.specs.declared.task.Task.TheVariants.{Play, SyncTest, Certify}
 use Rattle.roll_live.specs.declared.program.Live.{Live}
 use Rattle.prog_picture.specs.declared.scene.Window.{Window}
 use Rattle.rollduel.specs.declared.command_line.Request.{Request}

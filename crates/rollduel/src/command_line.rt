@@ -14,8 +14,8 @@ use prog_command_line::{
     Game, Input, LiveOptions, OptionFault, PictureRequest as AskedPicture, PictureWindow,
     Request as Asked, TextRequest as AskedText, TextTask,
 };
-use prog_parts::{GameName, Task};
 use prog_picture::Window;
+use prog_scripts::{GameName, Task};
 use roll_live::Live;
 use std::alloc::Global;
 

@@ -1,12 +1,12 @@
 //! The picture that is asked for, and how it is saved.
 ghost use Rattle.std.specs.Fn.{FnOnceReturnsAt, FnOnceReturnsAtPair};
 ghost use Rattle.std.specs.Prelude.{◌≡◌, ◌⊎◌, Bool, MatchBool, MatchOption, option_map};
-ghost use Rattle.prog_parts.specs.declared.fault.PlayFault.TheVariants.{Write as CannotWrite};
+ghost use Rattle.prog_scripts.specs.declared.fault.PlayFault.TheVariants.{Write as CannotWrite};
 ghost use Rattle.rollduel.specs.Endings.{ending_after, faulted, misused, to_save};
 
 use prog_explain::Notes;
-use prog_parts::{Ending, PlayFault};
 use prog_picture::{Sight, Window};
+use prog_scripts::{Ending, PlayFault};
 use std::fmt::Write as _;
 use std::io;
 use std::io::Read;

@@ -1,7 +1,7 @@
 use Rattle.std.proofs.Common.{◌≡◌, ◌∙◌, ◌+◌, ◌++◌, ◌∷◌, [], List, ap, sym, subst, arith, length, take, refl}
 use Rattle.std.specs.String.{string_bytes}
 use Rattle.std.proofs.lemmas.List.{length-take-le, take_all, take_more}
-use Rattle.prog_replies.specs.Output.{after_command, refusal_by}
+use Rattle.prog_scripts.specs.Output.{after_command, refusal_by}
 use Rattle.roll_cli.specs.Playings.{Played, game_of}
 use Rattle.prog_scripts.specs.declared.command.Command.{Command}
 use Rattle.roll_cli.proofs.Jobs.{jobs_within}

@@ -2,7 +2,7 @@ use Rattle.std.proofs.Common.{◌≡◌, ◌∙◌, ◌+◌, ◌++◌, ◌∷◌
 use Rattle.std.proofs.lemmas.List.{take_all, take_more}
 use Rattle.std.specs.Prelude.{◌&&◌, is_none}
 use Rattle.prog_observer.specs.Observing.{after_watch, observed}
-use Rattle.prog_replies.specs.Output.{Playing, after_command, refusal_by}
+use Rattle.prog_scripts.specs.Output.{Playing, after_command, refusal_by}
 use Rattle.prog_scripts.specs.declared.command.Command.{Command}
 use Rattle.roll_cli.proofs.Jobs.{jobs_within}
 use Rattle.roll_cli.specs.Playings.{Played, game_of}

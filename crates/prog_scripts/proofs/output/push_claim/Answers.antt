@@ -1,6 +1,6 @@
 use Rattle.std.proofs.Common.{◌∙◌, ◌++◌, sym, ap}
-use Rattle.prog_replies.proofs.Claimed.{claimed, no_roll_made, unclaimed}
-use Rattle.prog_replies.proofs.output.push_claim.Goals as goal
+use Rattle.prog_scripts.proofs.Claimed.{claimed, no_roll_made, unclaimed}
+use Rattle.prog_scripts.proofs.output.push_claim.Goals as goal
 
 pub returns-in_ok-extend_from_slice-in-Ok-clause-written : goal.returns-in_ok-extend_from_slice-in-Ok-clause-written
 returns-in_ok-extend_from_slice-in-Ok-clause-written g c =

@@ -1,8 +1,8 @@
 use Rattle.std.proofs.Common.{◌∙◌, ◌++◌, sym, ap}
 use Rattle.std.proofs.lemmas.List.{append-nil}
 use Rattle.roll_session.specs.Seen.{game_of}
-use Rattle.prog_replies.proofs.Written.{nothing_rolled, nothing_shown, rolled_line, six_pieces}
-use Rattle.prog_replies.proofs.output.push_frame.Goals as goal
+use Rattle.prog_scripts.proofs.Written.{nothing_rolled, nothing_shown, rolled_line, six_pieces}
+use Rattle.prog_scripts.proofs.output.push_frame.Goals as goal
 
 pub returns-in_default-clause-written : goal.returns-in_default-clause-written
 returns-in_default-clause-written g c =

@@ -3,7 +3,7 @@ use Rattle.std.proofs.lemmas.Option.{IfSome_then}
 use Rattle.roll_frame.specs.Games.{Game}
 use Rattle.prog_scripts.proofs.Engines.{plays_written}
 use Rattle.prog_scripts.specs.Headers.{setup_of}
-use Rattle.prog_replies.specs.Output.{game_from, output, refusals}
+use Rattle.prog_scripts.specs.Output.{game_from, output, refusals}
 use Rattle.roll_cli.proofs.Headlines.{output_headlined}
 use Rattle.roll_cli.proofs.PlayedTo.{output_of_outline}
 use Rattle.roll_cli.proofs.engine.play.Goals as goal

@@ -1,7 +1,7 @@
 use Rattle.std.proofs.Common.{◌∙◌, sym}
 use Rattle.std.proofs.lemmas.Option.{IfSome_then}
 use Rattle.prog_scripts.specs.Headers.{setup_of}
-use Rattle.prog_replies.specs.Output.{duel_output, duel_refusals}
+use Rattle.prog_scripts.specs.Output.{duel_output, duel_refusals}
 use Rattle.prog_scripts.proofs.Engines.{plays_written}
 use Rattle.roll_cli.proofs.Headlines.{duel_headlined}
 use Rattle.roll_cli.proofs.PlayedTo.{output_of_outline}

@@ -2,7 +2,7 @@ use Rattle.std.proofs.Common.{◌∙◌, ◌++◌, List, ap}
 use Rattle.std.proofs.lemmas.Result.{IfOk-weaker}
 use Rattle.roll_frame.specs.Games.{Game}
 use Rattle.prog_scripts.specs.declared.command.Command.{Command}
-use Rattle.prog_replies.specs.Output.{refusals_from, written_from}
+use Rattle.prog_scripts.specs.Output.{refusals_from, written_from}
 use Rattle.roll_cli.specs.Playings.{Played, game_of}
 use Rattle.roll_cli.proofs.Played.{first_played, written_started, refusals_started, written_refused, refusals_refused, if_ok_both}
 use Rattle.roll_cli.proofs.engine.push_output.Goals as goal

@@ -6,7 +6,7 @@ use Rattle.roll_frame.specs.declared.refusal.Refusal.TheVariants.{PlayerOutOfRan
 use Rattle.roll_text.specs.Lines.{ended}
 use Rattle.prog_scripts.specs.declared.command.Command.{Command}
 use Rattle.prog_scripts.specs.Headers.{setup_of}
-use Rattle.prog_replies.specs.Output.{duel_output, duel_refusals, output, refusals, refused_line}
+use Rattle.prog_scripts.specs.Output.{duel_output, duel_refusals, output, refusals, refused_line}
 use Rattle.prog_scripts.specs.Plays.{Play}
 use Rattle.roll_duel.specs.Text.{duel_text}
 use Rattle.prog_scripts.proofs.Engines.{outputs_weaker}

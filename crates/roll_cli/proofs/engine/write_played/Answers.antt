@@ -1,7 +1,7 @@
 use Rattle.std.proofs.Common.{◌∙◌, ◌++◌, ap}
 use Rattle.roll_frame.specs.Games.{Game}
 use Rattle.roll_frame.specs.declared.settings.Settings.{Settings}
-use Rattle.prog_replies.specs.Output.{game_from, output_under, refusals_under}
+use Rattle.prog_scripts.specs.Output.{game_from, output_under, refusals_under}
 use Rattle.prog_scripts.proofs.Engines.{outputs_front}
 use Rattle.roll_cli.proofs.engine.write_played.Goals as goal
 

@@ -5,7 +5,7 @@ use Rattle.roll_game.specs.Shown.{tally_text}
 use Rattle.roll_game.specs.Tally.{tally_step}
 use Rattle.prog_scripts.specs.Engines.{Plays}
 use Rattle.prog_scripts.specs.Plays.{play_of}
-use Rattle.prog_replies.specs.Output.{tally_game}
+use Rattle.prog_scripts.specs.Output.{tally_game}
 use Rattle.roll_live.specs.Lives.{IsFarOf, IsOutput, IsUnreadable, Writes}
 use Rattle.prog_scripts.proofs.Engines.{plays_read, plays_unread}
 use Rattle.roll_live.proofs.program.perform.Goals as goal

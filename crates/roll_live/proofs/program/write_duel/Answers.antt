@@ -3,7 +3,7 @@ use Rattle.std.specs.Int.{is_in_range}
 use Rattle.std.proofs.lemmas.Grind.{common_steps}
 use Rattle.roll_duel.specs.Bytes.{bytes_of, step}
 use Rattle.roll_frame.specs.Games.{Game}
-use Rattle.prog_replies.specs.Output.{duel_game}
+use Rattle.prog_scripts.specs.Output.{duel_game}
 use Rattle.prog_scripts.specs.Plays.{play_of}
 use Rattle.roll_duel.specs.Text.{duel_text}
 use Rattle.roll_live.specs.Lives.{Writes}

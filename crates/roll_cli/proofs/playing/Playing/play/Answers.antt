@@ -4,7 +4,7 @@ use Rattle.std.specs.Result.{result_err}
 use Rattle.roll_frame.specs.declared.limits.TheConstants.{PLAYER_LIMIT}
 use Rattle.roll_session.proofs.Following.{small_of}
 use Rattle.roll_text.specs.Lines.{ended}
-use Rattle.prog_replies.specs.Output.{after_command, guess_line, refusal_by, with_job, written_by}
+use Rattle.prog_scripts.specs.Output.{after_command, guess_line, refusal_by, with_job, written_by}
 use Rattle.roll_cli.specs.Playings.{Played, game_of}
 use Rattle.roll_cli.proofs.Asked.{asked_events, asked_guess}
 use Rattle.roll_cli.proofs.playing.Playing.play.Goals as goal

@@ -2,7 +2,7 @@ use Rattle.std.proofs.Common.{◌≡◌, ◌∙◌, ◌+◌, ◌≤◌, ap, refl
 use Rattle.std.specs.Prelude.{if◌then◌else◌, is_some}
 use Rattle.std.proofs.lemmas.Grind.{common_steps}
 use Rattle.roll_frame.specs.Games.{Value, Game}
-use Rattle.prog_replies.specs.Output.{after_command}
+use Rattle.prog_scripts.specs.Output.{after_command}
 use Rattle.roll_cli.specs.Playings.{Played, game_of}
 use Rattle.prog_scripts.proofs.Outlined.{not_none_first}
 use Rattle.roll_cli.proofs.PlayedTo.{played_none, played_more}
