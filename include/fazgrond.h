@@ -22,7 +22,7 @@ extern "C" {
 #endif
 
 /* The version of this header: major << 16 | minor << 8 | patch. docs/VERSIONS.md says what raises which of them. */
-#define FAZGROND_VERSION 0x000200
+#define FAZGROND_VERSION 0x000201
 
 /* The version of the library that the program runs with. While the major number is 0, a library fits a header with the same major
  * and minor number. If a library knows another size of fazgrond_settings, fazgrond_match or fazgrond_epoch than the header, it opens
@@ -131,7 +131,7 @@ typedef struct fazgrond_entry {
     uint32_t word;
 } fazgrond_entry;
 
-/* What calls answer. c/numbers writes the list. */
+/* What calls answer. bindings/numbers writes the list. */
 enum {
     FAZGROND_OK = 0,
     FAZGROND_INVALID_PLAYER = 2,
@@ -444,7 +444,7 @@ static inline void fazgrond_one_number(fazgrond_match *match, uint64_t number) {
  * `disconnect_in` milliseconds, as DROPPED tells then, unless it hears more of them again. Told whenever that begins.
  * TWO_MARKS: `machine` knows another mark of `player` than this machine. The player's machine told it in two ways, or one of those that
  * tell of it lies: the epochs of the two may end in two ways. Told once of each machine.
- * c/numbers writes the list. */
+ * bindings/numbers writes the list. */
 enum {
     FAZGROND_SYNCHRONIZING = 1001, FAZGROND_SYNCHRONIZED = 1002, FAZGROND_RUNNING = 1003, FAZGROND_DISCONNECTED = 1004,
     FAZGROND_TIME_SYNC = 1005, FAZGROND_INTERRUPTED = 1006, FAZGROND_RESUMED = 1007, FAZGROND_LEFT = 1101, FAZGROND_DESYNC = 1102,

@@ -44,7 +44,7 @@ struct Datagram {
     std::size_t length = 0;
 };
 
-// What a call answers. c/numbers writes the list.
+// What a call answers. bindings/numbers writes the list.
 enum class [[nodiscard]] Code : std::int32_t {
     ok = FAZGROND_OK,
     invalid_player = FAZGROND_INVALID_PLAYER,

@@ -7,7 +7,7 @@ public static unsafe class Fazgrond
 {
     const string Library = "fazgrond";    // fazgrond.dll, or libfazgrond.so on Linux
 
-    public const uint Version = 0x000200;
+    public const uint Version = 0x000201;
     public const int Players = 8;
     public const uint NoPlayer = 255;
     public const int Machines = 8;

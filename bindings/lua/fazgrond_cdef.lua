@@ -3,7 +3,7 @@ local ffi = require "ffi"
 
 if not pcall(ffi.typeof, "fazgrond_session") then -- (this may be loaded more than once)
     ffi.cdef [[
-static const int FAZGROND_VERSION = 0x000200;
+static const int FAZGROND_VERSION = 0x000201;
 uint32_t fazgrond_version(void);
 size_t fazgrond_text(int32_t code, uint8_t *out, size_t room);
 static const int FAZGROND_PLAYERS = 8;
@@ -444,7 +444,7 @@ return {
         end,
     },
     numbers = {
-        VERSION = 512,
+        VERSION = 513,
         PLAYERS = 8,
         NO_PLAYER = 255,
         MACHINES = 8,

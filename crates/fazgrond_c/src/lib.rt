@@ -74,9 +74,9 @@ use texts::{sentence_of, write_front};
 /// The version of the library: its major, minor and patch numbers, the last two in 8 bits each.
 #[unsafe(no_mangle)]
 pub extern "C" fn fazgrond_version() -> u32
-    ensures { result ≡ version_of 0 2 0 }
+    ensures { result ≡ version_of 0 2 1 }
 {
-    0x00_02_00
+    0x00_02_01
 }
 
 /// Writes the sentence for the number of an answer or of an event, as much as the buffer has room for, and says how long it is: 0 if

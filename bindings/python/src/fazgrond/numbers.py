@@ -1,7 +1,7 @@
 """The library's numbers. It is written by bindings/python/declare; fazgrond.h says what each means."""
 from enum import IntEnum
 
-VERSION = 0x000200
+VERSION = 0x000201
 PLAYERS = 8
 NO_PLAYER = 255
 MACHINES = 8

@@ -121,7 +121,7 @@ pub struct Window {
     pub bits: [u64; WINDOW_PLACES],
 }
 
-pub const VERSION: u32 = 0x000200;
+pub const VERSION: u32 = 0x000201;
 pub const PLAYERS: usize = 8;
 pub const NO_PLAYER: u32 = 255;
 pub const MACHINES: usize = 8;
