@@ -2,8 +2,6 @@
 #include "../../../programs/common/options.h"
 #include "trials.h"
 
-#include <stdarg.h>
-#include <stdlib.h>
 #include <string.h>
 
 static const char usage[] =
@@ -15,14 +13,13 @@ static const char usage[] =
     "trials play [OPTIONS] [FAULT..] a match, and what its machines are told; without more it says how\n";
 
 static char name[128];
-static unsigned passed, failed, wrong;
+
+#define CHECKS_OF "%s", name
+#include "../../check.h"
 
 void trial_case(const char *format, ...) {
-    if (name[0] != 0) {
-        passed += wrong == 0;
-        failed += wrong != 0;
-    }
-    wrong = 0;
+    if (name[0] != 0)
+        checks_end_case();
     va_list args;
     va_start(args, format);
     vsnprintf(name, sizeof name, format, args);
@@ -30,12 +27,8 @@ void trial_case(const char *format, ...) {
 }
 
 void trial_must(bool is_so, const char *what) {
-    if (is_so)
-        return;
-    if (wrong++ == 0)
-        printf("failed: %s\n", name);
-    if (wrong < 10)
-        printf("  %s\n", what);
+    if (!is_so)
+        CHECKS_SAY("%s\n", what);
 }
 
 void trial_must_of(bool is_so, uint32_t who, const char *what) {
@@ -132,7 +125,6 @@ int main(int count, char **words) {
         fputs(usage, stderr);
         return 2;
     }
-    trial_case("%s", "");
-    printf("%u passed, %u failed\n", passed, failed);
-    return failed != 0;
+    checks_end_case();
+    return checks_end();
 }
