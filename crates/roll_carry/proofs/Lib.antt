@@ -1,5 +1,4 @@
 pub mod Found
-pub mod Kept
 pub mod Texts
 pub mod Areas
 pub mod Fronts

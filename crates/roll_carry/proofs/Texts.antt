@@ -10,33 +10,19 @@ use Rattle.std.proofs.lemmas.Nat.{be_bytes_2, from_be_bytes-to_be_bytes_2}
 use Rattle.roll_mesh.specs.declared.limits.TheConstants.{MACHINE_LIMIT}
 use Rattle.roll_wire.specs.declared.datagram.Envelope.{Envelope}
 use Rattle.roll_wire.specs.declared.fault.WireFault.{WireFault}
-use Rattle.roll_wire.specs.declared.fault.WireFault.TheVariants.{Short, Magic, Kind, Trailing}
+use Rattle.roll_wire.specs.declared.fault.WireFault.TheVariants.{Short, Kind, Trailing}
 use Rattle.roll_wire.specs.declared.limits.TheConstants.{MAGIC}
 use Rattle.roll_wire.specs.Reading.{◌>>=◌, Gives, byte_at, envelope_at, magic_at, mask_at, number_at, repeated}
 use Rattle.roll_wire.specs.Spelling.{byte, envelope, mask, number, IsByte, IsEnvelope, IsNumber}
 use Rattle.roll_wire.proofs.Fields.{IsBytes, IsBytes-drop, IsBytes-take, IsField, Takes, Takes-then, bind_ok, both_at, both_field, byte_field, guard_ok, mask_field, number_field, ok_is, passed_ok, repeated_field, seen_at, seen_field}
-use Rattle.roll_wire.proofs.Groups.{envelope_field}
+use Rattle.roll_wire.proofs.Heads.{magic_again, magic_takes}
+use Rattle.roll_wire.proofs.Groups.{bind_assoc, envelope_field}
 use Rattle.roll_carry.specs.declared.datagram.Hearing.{Hearing}
 use Rattle.roll_carry.specs.declared.limits.TheConstants.{MAP, TAIL_LEAST}
 use Rattle.roll_carry.specs.Spelling.{IsHearing, IsMap, Maps, ParcelValue, Says, head, hearing_text, kind, map_text, pair, parcel_text}
 use Rattle.roll_carry.specs.Reading.{tail_at, head_at, hearing_at, machine_count, map_of, parcel_at}
 
 -- ---- what each datagram begins with
-
-pub magic_takes : (bytes : List ℕ) (n : ℕ) (rest : List ℕ) → IsBytes bytes
-    → magic_at bytes ≡ Ok (n, rest) → Takes bytes (number n) rest × (n ≡ MAGIC)
-unfolding magic_at
-magic_takes bytes n rest b e =
-    let p = bind_ok (number_at w32 bytes) (λ magic. cond (eqb magic.0 MAGIC) (Ok magic) (Err Magic))
-    (n, rest) e in
-    let g = passed_ok (eqb p.0.0 MAGIC) Magic p.0 (n, rest) p.2 in
-    let t = number_field.takes bytes p.0.0 p.0.1 b p.1 in
-    subst (λ (x : ℕ × List ℕ). Takes bytes (number x.0) x.1 × (x.0 ≡ MAGIC)) g.1
-    (t.0, eqb-true p.0.0 MAGIC g.0)
-
-magic_again : (rest : List ℕ) → magic_at (number MAGIC ++ rest) ≡ Ok (MAGIC, rest)
-unfolding magic_at
-magic_again rest = rw (number_field.again MAGIC rest (omega arith)) refl
 
 abbrev pub of_kind : ℕ → Envelope → ℕ × List ℕ → Result (Envelope × List ℕ) WireFault
 of_kind kind e found = cond (eqb found.0 kind) (Ok (e, found.1)) (Err Kind)
@@ -83,11 +69,6 @@ head_again kind e rest small fits =
     head_of kind kind e rest small fits ∙ rw same refl
 
 -- ---- a map
-
-bind_assoc : {A B C : Type 0} (r : Result A WireFault) (f : A → Result B WireFault)
-    (g : B → Result C WireFault) → ((r >>= f) >>= g) ≡ (r >>= λ x. f x >>= g)
-bind_assoc (Ok x) f g = refl
-bind_assoc (Err d) f g = refl
 
 abbrev hearing_parts : List ℕ → Result ((List Bool × ℕ) × List ℕ) WireFault
 hearing_parts = both_at mask_at (number_at w32)

@@ -1,4 +1,3 @@
-pub mod Fields
 pub mod Messages
 pub mod Parts
 pub mod Asking

@@ -8,12 +8,13 @@ use Rattle.std.proofs.lemmas.List.{append-nil, nil_from_length, take_at, drop_at
 use Rattle.std.proofs.lemmas.List.Concat.{flat_map-cons}
 use Rattle.roll_wire.specs.declared.datagram.Envelope.{Envelope}
 use Rattle.roll_wire.specs.declared.fault.WireFault.{WireFault}
-use Rattle.roll_wire.specs.declared.fault.WireFault.TheVariants.{Short, Magic, Kind, Trailing}
+use Rattle.roll_wire.specs.declared.fault.WireFault.TheVariants.{Short, Kind, Trailing}
 use Rattle.roll_wire.specs.declared.limits.TheConstants.{MAGIC}
 use Rattle.roll_wire.specs.Reading.{◌>>=◌, Gives as GivesRead, byte_at, envelope_at, magic_at, number_at, repeated}
 use Rattle.roll_wire.specs.Spelling.{byte, envelope, long, number, IsLong, IsNumber}
 use Rattle.roll_wire.proofs.Fields.{IsBytes, IsBytes-drop, IsField, Takes, Takes-then, bind_ok, both_at, both_field, byte_field, guard_ok, long_field, number_field, ok_is, passed_ok, repeated_field, seen_at, seen_field}
-use Rattle.roll_wire.proofs.Groups.{envelope_field}
+use Rattle.roll_wire.proofs.Heads.{magic_again, magic_takes}
+use Rattle.roll_wire.proofs.Groups.{bind_assoc, envelope_field}
 use Rattle.roll_state.specs.declared.datagram.StateDatagram.{StateDatagram}
 use Rattle.roll_state.specs.declared.limits.TheConstants.{ASK_LIMIT, PIECE_LIMIT}
 use Rattle.roll_state.specs.declared.name.StateName.{StateName}
@@ -40,11 +41,6 @@ digest_again n x rest len =
 
 digest_field : IsField (λ (d : List ℕ). length d ≡ 32) (λ (d : List ℕ). d) (bytes_at 32)
 digest_field = record { takes = digest_takes 32; again = digest_again 32 }
-
-bind_assoc : {A B C : Type 0} (r : Result A WireFault) (f : A → Result B WireFault)
-    (g : B → Result C WireFault) → ((r >>= f) >>= g) ≡ (r >>= λ x. f x >>= g)
-bind_assoc (Ok x) f g = refl
-bind_assoc (Err d) f g = refl
 
 abbrev Last : ℕ × List ℕ → Type 0
 Last x = IsNumber x.0 × (length x.1 ≡ 32)
@@ -264,21 +260,6 @@ content_again (Wants w) f =
     rw (byte_field.again 6 (wish_text w) (omega arith), wish_again w f) refl
 
 -- ---- the whole
-
-magic_takes : (bytes : List ℕ) (n : ℕ) (rest : List ℕ) → IsBytes bytes
-    → magic_at bytes ≡ Ok (n, rest) → Takes bytes (number n) rest × (n ≡ MAGIC)
-unfolding magic_at
-magic_takes bytes n rest b e =
-    let p = bind_ok (number_at w32 bytes) (λ magic. cond (eqb magic.0 MAGIC) (Ok magic) (Err Magic))
-    (n, rest) e in
-    let g = passed_ok (eqb p.0.0 MAGIC) Magic p.0 (n, rest) p.2 in
-    let t = number_field.takes bytes p.0.0 p.0.1 b p.1 in
-    subst (λ (x : ℕ × List ℕ). Takes bytes (number x.0) x.1 × (x.0 ≡ MAGIC)) g.1
-    (t.0, eqb-true p.0.0 MAGIC g.0)
-
-magic_again : (rest : List ℕ) → magic_at (number MAGIC ++ rest) ≡ Ok (MAGIC, rest)
-unfolding magic_at
-magic_again rest = rw (number_field.again MAGIC rest (omega arith)) refl
 
 abbrev ended : Envelope → Content × List ℕ → Result Message WireFault
 ended envelope c = cond (eqb (length c.1) 0) (Ok (record { envelope = envelope; content = c.0 }))

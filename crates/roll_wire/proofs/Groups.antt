@@ -21,7 +21,8 @@ use Rattle.roll_wire.specs.Spelling.{number, long, short, byte, mask, optional, 
 use Rattle.roll_wire.specs.Reading.{◌>>=◌, number_at, byte_at, short_at, mask_at, optional_at, masked_at, repeated, envelope_at, hello_at, clocks_at, settled_at, bits, counted_at, offered, offer_at, no_offer, view_at, head_at, newcomer_at, within_at, mark_at, marked_at}
 use Rattle.roll_wire.proofs.Fields.{IsBytes, IsField, IsMasked, Takes, Takes-then, bind_ok, guard_ok, ok_is, both_at, both_field, seen_at, seen_field, repeated_field, optional_field, masked_field, number_field, long_field, short_field, byte_field, mask_field}
 
-bind_assoc : {A B C : Type 0} (r : Result A WireFault) (f : A → Result B WireFault)
+-- one step after another, and another one
+pub bind_assoc : {A B C : Type 0} (r : Result A WireFault) (f : A → Result B WireFault)
     (g : B → Result C WireFault) → ((r >>= f) >>= g) ≡ (r >>= λ x. f x >>= g)
 bind_assoc (Ok x) f g = refl
 bind_assoc (Err d) f g = refl

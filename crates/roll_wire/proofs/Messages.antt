@@ -1,7 +1,6 @@
 -- The two laws: what is read is spelled so, and what is spelled so is read.
-use Rattle.std.proofs.Common.{◌≡◌, ℕ, zero, suc, true, cond, eqb, leb, List, [], ◌∷◌, ◌++◌, length, None, Result, Ok, Err, refl, sym, ap, subst, ◌∙◌, append_assoc, arith}
+use Rattle.std.proofs.Common.{◌≡◌, ℕ, zero, suc, true, cond, eqb, leb, List, [], ◌∷◌, ◌++◌, length, None, Result, Ok, Err, refl, sym, ap, subst, ◌∙◌, append_assoc}
 use Rattle.std.specs.Prelude.{Option, IfOk}
-use Rattle.std.specs.Int.{w32}
 use Rattle.std.proofs.lemmas.Bool.{eqb-true, leb-true, le-leb}
 use Rattle.std.proofs.lemmas.List.{append-nil, nil_from_length}
 use Rattle.roll_mesh.specs.declared.packet.Offer.{Offer}
@@ -10,30 +9,14 @@ use Rattle.roll_wire.specs.declared.datagram.Envelope.{Envelope}
 use Rattle.roll_wire.specs.declared.datagram.Head.{Head}
 use Rattle.roll_wire.specs.declared.datagram.Marked.{Marked}
 use Rattle.roll_wire.specs.declared.fault.WireFault.{WireFault}
-use Rattle.roll_wire.specs.declared.fault.WireFault.TheVariants.{Magic, TooMany, Trailing, Mark as MarkFault}
+use Rattle.roll_wire.specs.declared.fault.WireFault.TheVariants.{TooMany, Trailing, Mark as MarkFault}
 use Rattle.roll_wire.specs.declared.limits.TheConstants.{MAGIC, WORD_LIMIT}
 use Rattle.roll_wire.specs.Spelling.{Content, Greets, Plays, Leaves, Message, Turn, body, envelope, hello, message, number, head, marks, runs, spelling, byte, count_of, Fits, IsContent, IsTurn}
-use Rattle.roll_wire.specs.Reading.{◌>>=◌, Gives, number_at, byte_at, magic_at, envelope_at, hello_at, head_at, is_unmarked, marks_at, unmarked, unmarked_of, words_at, turn_at, content_at, all_of}
-use Rattle.roll_wire.proofs.Fields.{IsBytes, IsBytes-rest, Takes, Takes-then, bind_ok, passed_ok, ok_is, number_field, byte_field}
+use Rattle.roll_wire.specs.Reading.{◌>>=◌, Gives, byte_at, magic_at, envelope_at, hello_at, head_at, is_unmarked, marks_at, unmarked, unmarked_of, words_at, turn_at, content_at, all_of}
+use Rattle.roll_wire.proofs.Fields.{IsBytes, IsBytes-rest, Takes, Takes-then, bind_ok, passed_ok, ok_is, byte_field}
+use Rattle.roll_wire.proofs.Heads.{magic_again, magic_takes}
 use Rattle.roll_wire.proofs.Groups.{envelope_field, head_field, hello_field, marks_field}
 use Rattle.roll_wire.proofs.Words.{words_take, words_again}
-
--- ---- what a datagram begins with
-
-magic_takes : (bytes : List ℕ) (n : ℕ) (rest : List ℕ) → IsBytes bytes
-    → magic_at bytes ≡ Ok (n, rest) → Takes bytes (number n) rest × (n ≡ MAGIC)
-unfolding magic_at
-magic_takes bytes n rest b e =
-    let p = bind_ok (number_at w32 bytes) (λ magic. cond (eqb magic.0 MAGIC) (Ok magic) (Err Magic))
-    (n, rest) e in
-    let g = passed_ok (eqb p.0.0 MAGIC) Magic p.0 (n, rest) p.2 in
-    let t = number_field.takes bytes p.0.0 p.0.1 b p.1 in
-    subst (λ (x : ℕ × List ℕ). Takes bytes (number x.0) x.1 × (x.0 ≡ MAGIC)) g.1
-    (t.0, eqb-true p.0.0 MAGIC g.0)
-
-magic_again : (rest : List ℕ) → magic_at (number MAGIC ++ rest) ≡ Ok (MAGIC, rest)
-unfolding magic_at
-magic_again rest = rw (number_field.again MAGIC rest (omega arith)) refl
 
 -- ---- a turn
 

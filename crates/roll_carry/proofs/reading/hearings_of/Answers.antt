@@ -1,6 +1,6 @@
 use Rattle.std.proofs.lemmas.Result.{err_from_is_err_and}
 use Rattle.roll_carry.specs.Reading.{hearing_at}
-use Rattle.roll_carry.proofs.Kept.{ends, goes_on, is_done}
+use Rattle.roll_wire.proofs.Lists.{ends, goes_on, is_done}
 use Rattle.roll_carry.proofs.reading.hearings_of.Goals as goal
 
 pub loop-preserved : goal.loop-preserved

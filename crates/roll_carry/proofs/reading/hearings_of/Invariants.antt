@@ -1,5 +1,5 @@
 use Rattle.roll_carry.specs.Reading.{hearing_at}
-use Rattle.roll_carry.proofs.Kept.{Pushing}
+use Rattle.roll_wire.proofs.Lists.{Pushing}
 use Rattle.roll_carry.proofs.reading.hearings_of.Given as goal
 
 abbrev pub invariant-loop : goal.invariant-loop

@@ -1,6 +1,6 @@
 use Rattle.std.proofs.Common.{ℕ, ◌++◌, ◌∙◌, ap, arith}
 use Rattle.roll_wire.specs.Spelling.{number}
-use Rattle.roll_carry.proofs.Texts.{magic_takes}
+use Rattle.roll_wire.proofs.Heads.{magic_takes}
 use Rattle.roll_carry.proofs.reading.tail_of.Goals as goal
 
 pub returns-in-Ok-clause-whole : goal.returns-in-Ok-clause-whole

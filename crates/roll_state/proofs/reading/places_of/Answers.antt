@@ -1,7 +1,7 @@
 use Rattle.std.proofs.lemmas.Result.{err_from_is_err_and}
 use Rattle.std.specs.Int.{w32}
 use Rattle.roll_wire.specs.Reading.{number_at}
-use Rattle.roll_state.proofs.Fields.{ends, goes_on, is_done}
+use Rattle.roll_wire.proofs.Lists.{ends, goes_on, is_done}
 use Rattle.roll_state.proofs.reading.places_of.Goals as goal
 
 pub loop-preserved : goal.loop-preserved

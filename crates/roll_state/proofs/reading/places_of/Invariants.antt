@@ -1,6 +1,6 @@
 use Rattle.std.specs.Int.{w32}
 use Rattle.roll_wire.specs.Reading.{number_at}
-use Rattle.roll_state.proofs.Fields.{Pushing}
+use Rattle.roll_wire.proofs.Lists.{Pushing}
 use Rattle.roll_state.proofs.reading.places_of.Given as goal
 
 abbrev pub invariant-loop : goal.invariant-loop

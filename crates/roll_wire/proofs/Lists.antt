@@ -5,8 +5,6 @@ use Rattle.roll_wire.specs.declared.fault.WireFault.{WireFault}
 use Rattle.roll_wire.specs.Reading.{repeated}
 use Rattle.roll_wire.proofs.Loop.{regroup, with_front}
 
--- ---- a loop that reads so many of a field
-
 with_none : {A : Type 0} (r : Result (List A × List ℕ) WireFault) → with_front [] r ≡ r
 with_none (Ok x) = refl
 with_none (Err f) = refl
