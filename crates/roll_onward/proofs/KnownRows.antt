@@ -15,7 +15,8 @@ use Rattle.roll_frame.specs.Core.{Core}
 use Rattle.roll_frame.specs.declared.limits.TheConstants.{PLAYER_LIMIT}
 use Rattle.roll_session.proofs.Holding.{is_small}
 use Rattle.roll_session.specs.Seen.{game_of, FollowsLog, Seen, Step}
-use Rattle.roll_onward.specs.Known.{is_row_known, known_cell}
+use Rattle.roll_peer.specs.Known.{is_row_known}
+use Rattle.roll_onward.specs.Known.{known_cell}
 
 -- the first of the players have these cells at frame t, and all are known
 pub record AreCells (players : List Player) (t place : ℕ) (row : List Cell) : Type 0 where

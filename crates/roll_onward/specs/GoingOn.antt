@@ -9,6 +9,7 @@ use Rattle.roll_chain.specs.declared.seam.Opening.{Opening}
 use Rattle.roll_epoch.specs.declared.marks.Ending.{Ending}
 use Rattle.roll_frame.specs.Settings.{start_refusal}
 use Rattle.roll_peer.specs.Following.{IsFollowedAs}
+use Rattle.roll_peer.specs.Known.{IsKnownTo}
 use Rattle.roll_peer.specs.Peered.{IsWhyNot, Peered}
 use Rattle.roll_peer.specs.declared.refusal.OpenRefusal.TheVariants.{NoMemory as NoneLeft}
 use Rattle.roll_seam.specs.Again.{given_again, ArePlayed}
@@ -19,7 +20,7 @@ use Rattle.roll_seam.specs.declared.past.Past.{Past}
 use Rattle.roll_session.specs.Changes.{IsWhy}
 use Rattle.roll_session.specs.Seen.{Seen, Step}
 use Rattle.roll_session.specs.Started.{first_seen}
-use Rattle.roll_onward.specs.States.{value_at, IsKnownTo, IsWhyNoState}
+use Rattle.roll_onward.specs.States.{value_at, IsWhyNoState}
 use Rattle.roll_onward.specs.declared.refusal.OnwardRefusal.{OnwardRefusal}
 use Rattle.roll_onward.specs.declared.refusal.OnwardRefusal.TheVariants.{Network, NotOver, Session}
 

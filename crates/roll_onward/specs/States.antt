@@ -10,15 +10,11 @@ use Rattle.roll_game.specs.Counts.{counted}
 use Rattle.roll_game.specs.declared.counts.Call.TheVariants.{Advance}
 use Rattle.roll_game.specs.declared.counts.Counts.{Counts}
 use Rattle.roll_session.specs.Seen.{Seen, Step}
-use Rattle.roll_onward.specs.Known.{is_row_known}
+use Rattle.roll_peer.specs.Known.{is_row_known}
 
 -- the serial run, from the session's opening, over the timeline's rows before a frame
 abbrev pub value_at : Step → Seen → ℕ → Value
 value_at step s frame = run step s.opening (timeline s.core.players frame)
-
--- each row before a frame is known: so it never changes any more
-abbrev pub IsKnownTo : Seen → ℕ → Type 0
-IsKnownTo s frame = (t : ℕ) → t < frame → is_row_known s.core.players t ≡ true
 
 -- the counts after so many frames
 abbrev pub advanced : ℕ → Counts → Counts

@@ -3,7 +3,8 @@ ghost use Rattle.std.specs.Prelude.{◌≡◌, ◌-◌, true, IfErr, IfOk, OnOk}
 ghost use Rattle.roll_frame.specs.Core.{settled};
 ghost use Rattle.roll_game.specs.Counts.{counted};
 ghost use Rattle.roll_game.specs.declared.counts.Call.TheVariants.{Load, Save};
-ghost use Rattle.roll_onward.specs.States.{advanced, value_at, IsKnownTo, IsWhyNoState};
+ghost use Rattle.roll_onward.specs.States.{advanced, value_at, IsWhyNoState};
+ghost use Rattle.roll_peer.specs.Known.{IsKnownTo};
 
 use crate::known::known_row;
 use roll_frame::Refusal;

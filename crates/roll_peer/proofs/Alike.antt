@@ -1,12 +1,12 @@
--- Machines that stay settle the same rows.
+-- Machines that stay know the same rows.
 use Rattle.std.proofs.Common.{◌≡◌, ◌∙◌, ◌⊎◌, ◌≢◌, ℕ, zero, suc, ◌+◌, ◌<◌, ◌≤◌, List, [], ◌∷◌, length, get_or, take, refl, ap, sym, subst, arith, true, false, inl, inr, Option, Some, None}
 use Rattle.std.specs.Option.{option_map_or}
 use Rattle.std.specs.Prelude.{◌==◌, is_some, nat_lt, slice_get, slice_index, slice_index_or}
-use Rattle.std.proofs.lemmas.Bool.{cases_eq, cases_order, false_from_ne_true, false≢true, le-ltb, lt-ltb, ne_eqb}
+use Rattle.std.proofs.lemmas.Bool.{and_parts, cases_eq, cases_order, false_from_ne_true, false≢true, le-ltb, lt-ltb, ne_eqb}
 use Rattle.std.proofs.lemmas.List.{get_or-take}
 use Rattle.std.proofs.lemmas.Option.{slice_get_within}
 use Rattle.roll_frame.specs.Cells.{Rows}
-use Rattle.roll_frame.specs.Core.{is_known, settled, Core}
+use Rattle.roll_frame.specs.Core.{is_known, Core}
 use Rattle.roll_frame.specs.Games.{Value}
 use Rattle.roll_frame.specs.Paths.{run}
 use Rattle.roll_frame.specs.Settings.{most_players}
@@ -15,10 +15,8 @@ use Rattle.roll_frame.specs.declared.profile.Profile.{Profile}
 use Rattle.roll_frame.specs.declared.profile.Profile.TheVariants.{Ggpo, Wide}
 use Rattle.roll_frame.specs.declared.row.Cell.TheVariants.{Word}
 use Rattle.roll_laws.proofs.Bounds.{players_stay}
-use Rattle.roll_laws.proofs.Fronts.{known_below_front, settled_is}
 use Rattle.roll_laws.proofs.Glue.{always_holds}
-use Rattle.roll_laws.proofs.Known.{cell_confirmed, cell_gone, known_cases, AllKnown}
-use Rattle.roll_laws.proofs.Sound.{sound_played, Sound}
+use Rattle.roll_laws.proofs.Known.{cell_confirmed, cell_gone, known_cases}
 use Rattle.roll_laws.proofs.Starts.{starts_are_small}
 use Rattle.roll_mesh.proofs.Changes.{none_some, some_same}
 use Rattle.roll_mesh.proofs.Handed.{count, counts_most, owned, Kept}
@@ -37,21 +35,24 @@ use Rattle.roll_session.specs.Seen.{game_of, FollowsLog, Seen, Step}
 use Rattle.roll_member.specs.Joined.{held, is_gone_at, words_known}
 use Rattle.roll_member.proofs.Beside.{near_at, IsNearAt}
 use Rattle.roll_member.proofs.Known.{known_other}
-use Rattle.roll_peer.specs.OneMatch.{AreAlike, AreOne, IsHere, IsMachine, TwoPeersOneMatch}
+use Rattle.roll_peer.specs.Known.{is_row_known, IsKnownTo}
+use Rattle.roll_peer.specs.OneMatch.{AreAlike, AreOne, IsHere, IsMachine, TwoPeersKnowOne, TwoPeersOneMatch}
 use Rattle.roll_peer.specs.PeerWorlds.{PeerWorld}
 use Rattle.roll_peer.specs.Peered.{beside}
 use Rattle.roll_peer.specs.Requests.{Beside}
+use Rattle.roll_peer.proofs.Known.{settled_known}
 use Rattle.roll_peer.proofs.Later.{at_place as player_of}
 use Rattle.roll_peer.proofs.Mirrors.{mirrors, stands_of, IsAt, IsMirrored, Mirrors}
 use Rattle.roll_peer.proofs.Standing.{from_kept, sized_at}
 
 -- ---- rows
 
-known_of : (t : ℕ) (players : List Player) (place : ℕ) (x : Player) → AllKnown t players → slice_get players place ≡ Some x
+known_of : (t : ℕ) (players : List Player) (place : ℕ) (x : Player) → is_row_known players t ≡ true → slice_get players place ≡ Some x
     → is_known t x ≡ true
-known_of t [] place x all e = absurd (none_some x e)
-known_of t (p ∷ ps) zero x all e = subst (λ (y : Player). is_known t y ≡ true) (some_same p x e) all.0
-known_of t (p ∷ ps) (suc place) x all e = known_of t ps place x all.1 e
+known_of t [] place x known e = absurd (none_some x e)
+known_of t (p ∷ ps) zero x known e =
+    subst (λ (y : Player). is_known t y ≡ true) (some_same p x e) (and_parts (is_known t p) (is_row_known ps t) known).0
+known_of t (p ∷ ps) (suc place) x known e = known_of t ps place x (and_parts (is_known t p) (is_row_known ps t) known).1 e
 
 abbrev AreSameAt : ℕ → List Player → List Player → Type 0
 AreSameAt t xs ys =
@@ -77,13 +78,6 @@ same_run one other alike value (row ∷ rows) =
     same_run one other alike (one value row) rows ∙ ap (λ (v : Value). run other v rows) (alike value row)
 
 -- ---- a session
-
-all_known : (step : Step) (s : Seen) → FollowsLog step s → (f t : ℕ) → f ≤ settled s.core → t < f → AllKnown t s.core.players
-all_known step s follows f t low l =
-    let sound : Sound s.settings s.core =
-    subst (Sound s.settings) (sym follows.core) (always_holds Sound sound_played s.settings (game_of step s) s.log follows.log) in
-    let up = settled_is s.core sound.root in
-    known_below_front t s.core.players (omega (arith, up.0, low, l))
 
 few_players : (profile : Profile) → most_players profile ≤ 8
 few_players Ggpo = omega arith
@@ -328,7 +322,7 @@ module _ (match : Match) (peers : PeerWorld) (m : Mirrors match peers) where
             ∙ lt-ltb many_b many_a more))
 
     -- rows before a frame that are known at both
-    known_rows : (f : ℕ) → ((t : ℕ) → t < f → AllKnown t a.session.core.players) → ((t : ℕ) → t < f → AllKnown t b.session.core.players)
+    known_rows : (f : ℕ) → IsKnownTo a.session f → IsKnownTo b.session f
         → timeline a.session.core.players f ≡ timeline b.session.core.players f
     known_rows f known_a known_b =
         same_time f a.session.core.players b.session.core.players same_many (λ t l. at t l)
@@ -340,11 +334,6 @@ module _ (match : Match) (peers : PeerWorld) (m : Mirrors match peers) where
             (player_is a place x e) (player_is b place y g)
             (known_of t a.session.core.players place x (known_a t l) e)
             (known_of t b.session.core.players place y (known_b t l) g)
-
-    same_rows : (f : ℕ) → f ≤ settled a.session.core → f ≤ settled b.session.core
-        → timeline a.session.core.players f ≡ timeline b.session.core.players f
-    same_rows f low_a low_b =
-        known_rows f (λ t l. all_known one a.session is_a.follows f t low_a l) (λ t l. all_known other b.session is_b.follows f t low_b l)
 
 -- states are alike where the rows are
 are_one : (one other : Step) (a b : Beside) (f : ℕ)
@@ -358,8 +347,8 @@ are_one one other a b f rows left = record {
   left = left;
 }
 
-pub two_peers_one_match : TwoPeersOneMatch
-two_peers_one_match match games peers i j a b played is_a is_b here_a here_b frame low_a low_b = go (cases_eq i j)
+pub two_peers_know_one : TwoPeersKnowOne
+two_peers_know_one match games peers i j a b played is_a is_b here_a here_b frame known_a known_b = go (cases_eq i j)
   where
     m : Mirrors match peers
     m = mirrors match games peers played
@@ -372,7 +361,14 @@ two_peers_one_match match games peers i j a b played is_a is_b here_a here_b fra
         (sym f ∙ ap (λ (x : Beside). left_at x.peer.member.mesh.machine p) same ∙ s))
     go (inr apart) =
         are_one (games i) (games j) a b frame
-        (same_rows match peers m (games i) (games j) i j a b is_a is_b here_a here_b apart frame low_a low_b)
+        (known_rows match peers m (games i) (games j) i j a b is_a is_b here_a here_b apart frame known_a known_b)
         (λ p first second f s.
         sym (left_at_both match peers m (games i) (games j) i j p first a b is_a is_b here_a f).other
         ∙ (left_at_both match peers m (games j) (games i) j i p second b a is_b is_a here_b s).one)
+
+-- what is settled is known
+pub two_peers_one_match : TwoPeersOneMatch
+two_peers_one_match match games peers i j a b played is_a is_b here_a here_b frame low_a low_b =
+    two_peers_know_one match games peers i j a b played is_a is_b here_a here_b frame
+    (λ t l. settled_known (games i) a.session is_a.follows t (omega (arith, l, low_a)))
+    (λ t l. settled_known (games j) b.session is_b.follows t (omega (arith, l, low_b)))

@@ -23,5 +23,6 @@ pub mod Rolling
 pub mod Requests
 pub mod Headline
 pub mod PeerWorlds
+pub mod Known
 pub mod OneMatch
 pub mod MarkLaws

@@ -9,6 +9,7 @@ use Rattle.roll_member.specs.Beside.{IsOf}
 use Rattle.roll_mesh.specs.Machines.{is_in, left_at}
 use Rattle.roll_mesh.specs.Worlds.{Match}
 use Rattle.roll_session.specs.Seen.{FollowsLog, Step}
+use Rattle.roll_peer.specs.Known.{IsKnownTo}
 use Rattle.roll_peer.specs.PeerWorlds.{IsPlayedTo, PeerWorld}
 use Rattle.roll_peer.specs.Requests.{Beside}
 
@@ -26,7 +27,7 @@ IsHere beside machine = is_in beside.peer.member.mesh.machine.gone machine ≡ f
 abbrev pub AreAlike : Step → Step → Type 0
 AreAlike one other = (value : Value) (row : List Cell) → one value row ≡ other value row
 
--- up to a frame the same rows are settled at both; games that are alike, and opened with the same value, come to the same state
+-- up to a frame both have the same rows; games that are alike, and opened with the same value, come to the same state
 -- there; and who has left both, left both at one frame
 pub record AreOne (one other : Step) (a b : Beside) (frame : ℕ) : Type 0 where
   pub rows : timeline a.session.core.players frame ≡ timeline b.session.core.players frame
@@ -44,4 +45,13 @@ TwoPeersOneMatch =
     → IsPlayedTo match games world → IsMachine (games i) world i a → IsMachine (games j) world j b
     → IsHere a j → IsHere b i
     → (frame : ℕ) → frame ≤ settled a.session.core → frame ≤ settled b.session.core
+    → AreOne (games i) (games j) a b frame
+
+-- and so they are up to each frame before which both know all rows, settled or not
+abbrev pub TwoPeersKnowOne : Type 0
+TwoPeersKnowOne =
+    (match : Match) (games : ℕ → Step) (world : PeerWorld) (i j : ℕ) (a b : Beside)
+    → IsPlayedTo match games world → IsMachine (games i) world i a → IsMachine (games j) world j b
+    → IsHere a j → IsHere b i
+    → (frame : ℕ) → IsKnownTo a.session frame → IsKnownTo b.session frame
     → AreOne (games i) (games j) a b frame

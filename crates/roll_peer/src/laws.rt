@@ -2,7 +2,7 @@
 ghost use Rattle.std.specs.Prelude.{◌≡◌, ◌-◌, ◌^◌};
 ghost use Rattle.roll_peer.specs.Laws.{EventsNameMachines, NothingElseIsHeard};
 ghost use Rattle.roll_peer.specs.MarkLaws.{TheyKnowOneMark, WhatWasPutIsKnown, WhoHasTheWordHasItsMark};
-ghost use Rattle.roll_peer.specs.OneMatch.{TwoPeersOneMatch};
+ghost use Rattle.roll_peer.specs.OneMatch.{TwoPeersKnowOne, TwoPeersOneMatch};
 ghost use Rattle.roll_peer.specs.declared.comparison.TheConstants.{SEARCH_LIMIT};
 ghost use Rattle.roll_peer.specs.declared.digests.TheConstants.{DIGEST_LIMIT};
 ghost use Rattle.roll_peer.specs.declared.event.TheConstants.{EVENT_LIMIT};
@@ -34,6 +34,13 @@ pub fn events_name_machines()
 /// gone as it begins. Of both machines it supposes that their sessions were told of others by these networks alone.
 pub fn two_peers_one_match()
     ensures { TwoPeersOneMatch }
+{}
+
+/// What `two_peers_one_match` says of rows that both have settled holds of all rows that both know: up to each frame before which
+/// each of them has every player's words, or the player has left it before. So it holds up to the end of an epoch too, whose last
+/// rows needn't be settled there.
+pub fn two_peers_know_one()
+    ensures { TwoPeersKnowOne }
 {}
 
 /// A mark comes with its word: each machine that has a word of a player knows the mark that the player's owner knows of it, and none if

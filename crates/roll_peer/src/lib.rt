@@ -34,8 +34,8 @@ pub use cut_off::CutOff;
 pub use event::PeerEvent;
 pub use following::Seating;
 pub use laws::{
-    events_name_machines, limits_are, nothing_else_is_heard, two_peers_one_match,
-    who_has_the_word_has_its_mark,
+    events_name_machines, limits_are, nothing_else_is_heard, two_peers_know_one,
+    two_peers_one_match, who_has_the_word_has_its_mark,
 };
 pub use peer::Peer;
 pub use received::{Ignored, Received};

@@ -1,7 +1,8 @@
 use Rattle.std.proofs.Common.{◌≡◌, suc, ◌+◌, ◌-◌, ◌∙◌, sym, subst, refl, arith}
 use Rattle.roll_frame.specs.Core.{settled}
-use Rattle.roll_onward.specs.States.{IsKnownTo}
-use Rattle.roll_onward.proofs.Runs.{known_more, row_given, settled_known, value_more}
+use Rattle.roll_peer.specs.Known.{IsKnownTo}
+use Rattle.roll_peer.proofs.Known.{settled_known}
+use Rattle.roll_onward.proofs.Runs.{known_more, row_given, value_more}
 use Rattle.roll_onward.proofs.state.state_at.Goals as goal
 
 pub loop-next-init : goal.loop-next-init

@@ -2,7 +2,8 @@ use Rattle.std.proofs.Common.{◌≡◌, ◌-◌, true}
 use Rattle.roll_frame.specs.Core.{settled}
 use Rattle.roll_game.specs.Counts.{counted}
 use Rattle.roll_game.specs.declared.counts.Call.TheVariants.{Load}
-use Rattle.roll_onward.specs.States.{advanced, value_at, IsKnownTo}
+use Rattle.roll_onward.specs.States.{advanced, value_at}
+use Rattle.roll_peer.specs.Known.{IsKnownTo}
 use Rattle.roll_onward.proofs.state.state_at.Given as goal
 
 abbrev pub invariant-loop-next : goal.invariant-loop-next
