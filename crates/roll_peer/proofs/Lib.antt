@@ -18,6 +18,7 @@ pub mod Standing
 pub mod Later
 pub mod Polling
 pub mod Mirrors
+pub mod Rising
 pub mod Known
 pub mod Alike
 pub mod GoneFirst

@@ -13,7 +13,7 @@ use Rattle.roll_mesh.specs.declared.packet.Packet.{Packet}
 use Rattle.roll_mesh.specs.declared.seat.Seat.{Seat}
 use Rattle.roll_mesh.specs.Machines.{at_places, kept_offer, leave, owner_of, shortened, tell}
 use Rattle.roll_mesh.specs.Meshes.{is_seat, stepped, Seated}
-use Rattle.roll_mesh.specs.Words.{first_holder, first_words, hear_words, holder_at, no_holder, tell_words, words_after, words_told, Holder, Parcel, Tells, WordWorld}
+use Rattle.roll_mesh.specs.Words.{first_holder, first_words, hear_words, holder_at, no_holder, tell_words, words_after, words_after_all, words_told, Holder, Parcel, Tells, WordStep, WordWorld}
 use Rattle.roll_mesh.specs.Worlds.{first_machine, seat_of, Match}
 use Rattle.roll_session.specs.Headline.{words_of}
 use Rattle.roll_session.specs.Seen.{FollowsLog, Seen, Step}
@@ -37,7 +37,7 @@ use Rattle.roll_peer.specs.declared.received.Ignored.{Ignored}
 use Rattle.roll_peer.specs.declared.received.Received.{Received}
 use Rattle.roll_peer.specs.declared.received.Received.TheVariants.{Hello as HelloHeard, Play as PlayHeard, Bye as ByeHeard}
 use Rattle.roll_peer.specs.declared.settings.MatchSettings.{MatchSettings}
-use Rattle.roll_peer.proofs.Coming.{comes_already, gives_all, held_to, with_holder, Comes}
+use Rattle.roll_peer.proofs.Coming.{after_both, comes_already, gives_all, held_to, with_holder, Comes}
 use Rattle.roll_peer.proofs.Genuine.{genuine, sender_is}
 use Rattle.roll_peer.proofs.Later.{called_on, goes_on}
 use Rattle.roll_peer.proofs.Parcels.{heard_alike, shares_kept, shortened_again, whole_heard}
@@ -109,6 +109,7 @@ record Follows (match : Match) (old : WordWorld) (i : ℕ) (b : Beside) (said : 
   others : (j : ℕ) → j ≢ i → holder_at new j ≡ holder_at old j
   keeps : KeepsSent old new
   told : (place : ℕ) (bytes : List ℕ) → slice_get said place ≡ Some bytes → WasTold new bytes
+  comes : (steps : List WordStep) × (words_after_all match old steps ≡ new)
 
 none_said : (world : WordWorld) (place : ℕ) (bytes : List ℕ) → slice_get {X = List ℕ} [] place ≡ Some bytes → WasTold world bytes
 none_said world place bytes e = absurd (none_some bytes e)
@@ -145,6 +146,7 @@ module _ (match : Match) (world : WordWorld) (i : ℕ) (from : IsFrom match worl
     others = λ j apart. get_or-set_other world.holders i j (held (beside b.session b.peer)) no_holder apart;
     keeps = λ place parcel e. (place, e);
     told = none_said (with_holder world i (held (beside b.session b.peer)));
+    comes = stands.comes;
   }
 
   -- something was said that is no play
@@ -159,6 +161,7 @@ module _ (match : Match) (world : WordWorld) (i : ℕ) (from : IsFrom match worl
         others = quiet.others;
         keeps = quiet.keeps;
         told = λ place other e. said place other e quiet.new;
+        comes = quiet.comes;
       }
     where
       said : (place : ℕ) (other : List ℕ) → slice_get (bytes ∷ []) place ≡ Some other → (w : WordWorld) → WasTold w other
@@ -198,6 +201,11 @@ module _ (match : Match) (world : WordWorld) (i : ℕ) (from : IsFrom match worl
     others = λ j apart. get_or-set_other world.holders i j h no_holder apart;
     keeps = λ place parcel e. (suc place, e);
     told = said;
+    comes = (
+      stands.comes.0 ++ Tells i m room ∷ [],
+      after_both match world stands.comes.0 (Tells i m room ∷ [])
+          ∙ ap (λ (w : WordWorld). words_after_all match w (Tells i m room ∷ [])) stands.comes.1 ∙ tell_is h m room,
+    );
   }
     where
       h : Holder
@@ -543,6 +551,11 @@ pub record Mirrors (match : Match) (peers : PeerWorld) : Type 0 where
   pub each : (i : ℕ) → IsAt match world i (peers.machines i)
   pub told : (place : ℕ) (bytes : List ℕ) → slice_get peers.sent place ≡ Some bytes → WasTold world bytes
 
+-- and so has one that comes of another by these steps
+pub record MirrorsOn (match : Match) (old : WordWorld) (peers : PeerWorld) : Type 0 where
+  pub mirrors : Mirrors match peers
+  pub comes : (steps : List WordStep) × (words_after_all match old steps ≡ mirrors.world)
+
 same_at : (match : Match) (old new : WordWorld) (i : ℕ) (o : Option Beside) → holder_at new i ≡ holder_at old i
     → IsAt match old i o → IsAt match new i o
 same_at match old new i None e at = λ l. e ∙ at l
@@ -569,13 +582,16 @@ module _ (match : Match) (games : ℕ → Step) where
   follow : (old new : PeerWorld) (m : Mirrors match old) (i : ℕ) (b : Beside) (said : List (List ℕ))
       → Follows match m.world i b said
       → new.machines i ≡ Some b → ((j : ℕ) → j ≢ i → new.machines j ≡ old.machines j) → new.sent ≡ said ++ old.sent
-      → Mirrors match new
+      → MirrorsOn match m.world new
   follow old new m i b said f here others sent = record {
-    world = f.new;
-    from = f.from;
-    each = λ j. each j (cases_eq j i);
-    told = λ place bytes e.
-        told bytes (in_either said old.sent place bytes (ap (λ (bs : List (List ℕ)). slice_get bs place) (sym sent) ∙ e));
+    mirrors = record {
+      world = f.new;
+      from = f.from;
+      each = λ j. each j (cases_eq j i);
+      told = λ place bytes e.
+          told bytes (in_either said old.sent place bytes (ap (λ (bs : List (List ℕ)). slice_get bs place) (sym sent) ∙ e));
+    };
+    comes = f.comes;
   }
     where
       each : (j : ℕ) → (j ≡ i) ⊎ (j ≡ i → ⊥) → IsAt match f.new j (new.machines j)
@@ -591,13 +607,13 @@ module _ (match : Match) (games : ℕ → Step) where
       told bytes (inl h) = f.told h.0 bytes h.1
       told bytes (inr h) = still_told m.world f.new bytes f.keeps (m.told h.0 bytes h.1)
 
-  pub step_mirrors : (old new : PeerWorld) → Mirrors match old → IsStep match games old new → Mirrors match new
+  pub step_mirrors : (old new : PeerWorld) (m : Mirrors match old) → IsStep match games old new → MirrorsOn match m.world new
   step_mirrors old new m step = go step.step_is
     where
       i : ℕ
       i = step.machine
 
-      go : Opens match old new i ⊎ Acts (games i) old new i → Mirrors match new
+      go : Opens match old new i ⊎ Acts (games i) old new i → MirrorsOn match m.world new
       go (inl o) =
           let fresh = subst (λ (x : Option Beside). IsAt match m.world i x) o.fresh (m.each i) in
           follow old new m i (record { session = o.session; peer = o.peer }) []
@@ -609,11 +625,21 @@ module _ (match : Match) (games : ℕ → Step) where
           (stands_of match m.world i m.from step.inside a.before before))
           a.is step.others a.sent
 
-  steps_mirror : (old : PeerWorld) (worlds : List PeerWorld) (new : PeerWorld) → Mirrors match old
-      → AreSteps match games old worlds new → Mirrors match new
-  steps_mirror old [] new m steps = subst (Mirrors match) (sym steps) m
+  pub steps_mirror : (old : PeerWorld) (worlds : List PeerWorld) (new : PeerWorld) (m : Mirrors match old)
+      → AreSteps match games old worlds new → MirrorsOn match m.world new
+  steps_mirror old [] new m steps =
+      subst (MirrorsOn match m.world) (sym steps) (record { mirrors = m; comes = ([], refl) })
   steps_mirror old (next ∷ more) new m steps =
-      steps_mirror next more new (step_mirrors old next m steps.0) steps.1
+      let first = step_mirrors old next m steps.0 in
+      let rest = steps_mirror next more new first.mirrors steps.1 in
+      record {
+        mirrors = rest.mirrors;
+        comes = (
+          first.comes.0 ++ rest.comes.0,
+          after_both match m.world first.comes.0 rest.comes.0
+              ∙ ap (λ (w : WordWorld). words_after_all match w rest.comes.0) first.comes.1 ∙ rest.comes.1,
+        );
+      }
 
   pub mirrors_nobody : Mirrors match nobody
   mirrors_nobody = record {
@@ -624,4 +650,4 @@ module _ (match : Match) (games : ℕ → Step) where
   }
 
   pub mirrors : (peers : PeerWorld) → IsPlayedTo match games peers → Mirrors match peers
-  mirrors peers played = steps_mirror nobody played.0 peers mirrors_nobody played.1
+  mirrors peers played = (steps_mirror nobody played.0 peers mirrors_nobody played.1).mirrors

@@ -17,7 +17,7 @@ use Rattle.roll_mesh.specs.declared.seat.Seat.{Seat}
 use Rattle.roll_mesh.specs.Groups.{first_of}
 use Rattle.roll_mesh.specs.Machines.{hear, leave, none_offered, offer_at, owner_of, tell, trimmed}
 use Rattle.roll_mesh.specs.Meshes.{stepped, Seated}
-use Rattle.roll_mesh.specs.Words.{Holder, Parcel}
+use Rattle.roll_mesh.specs.Words.{Holder, Parcel, WordWorld}
 use Rattle.roll_mesh.specs.Worlds.{seat_of, Match}
 use Rattle.roll_session.specs.Headline.{words_of}
 use Rattle.roll_session.specs.Seen.{Seen, Step}
@@ -50,24 +50,25 @@ use Rattle.roll_peer.proofs.Keeping.{is_own, stays_left, stays_like, stays_met, 
 use Rattle.roll_peer.proofs.Mirrors.{in_either, mirrors, mirrors_nobody, step_mirrors, text_is, IsAt, IsMirrored, IsToldAs, Mirrors, WasTold}
 use Rattle.roll_peer.proofs.Noted.{heard_in, heard_more, mark_here, mark_other, noted, noted_alike, noted_early, noted_is, noted_many, noted_there, offered_alike, shortened_in, told_alike, IsIn}
 use Rattle.roll_peer.proofs.Polling.{either_like, ignored_like, like, like_as, AreLike}
+use Rattle.roll_peer.proofs.Rising.{rise}
 use Rattle.roll_peer.proofs.Said.{after_send_is}
 use Rattle.roll_peer.proofs.Standing.{from_kept}
 
 -- ---- what holds of each world
 
 -- the mark that a player's owner knows of it, if its network is open
-abbrev known_by : Option Beside → ℕ → Option Marked
+abbrev pub known_by : Option Beside → ℕ → Option Marked
 known_by None p = None
 known_by (Some b) p = mark_at b.peer.marks p
 
-abbrev owners : Match → PeerWorld → ℕ → Option Marked
+abbrev pub owners : Match → PeerWorld → ℕ → Option Marked
 owners match world p = known_by (world.machines (owner_in match p)) p
 
 -- machine i knows the owners' marks of the words that it has, and of others' players no mark of other words
-record IsMarked (match : Match) (world : PeerWorld) (i : ℕ) (peer : Peered) : Type 0 where
-  sized : length peer.marks ≡ PLAYER_LIMIT
-  same : (p f : ℕ) → p < PLAYER_LIMIT → f < has_of peer p → mark_of_word peer p f ≡ mark_for (owners match world p) f
-  there : (p : ℕ) (m : Marked) → p < PLAYER_LIMIT → owner_in match p ≢ i → mark_at peer.marks p ≡ Some m
+pub record IsMarked (match : Match) (world : PeerWorld) (i : ℕ) (peer : Peered) : Type 0 where
+  pub sized : length peer.marks ≡ PLAYER_LIMIT
+  pub same : (p f : ℕ) → p < PLAYER_LIMIT → f < has_of peer p → mark_of_word peer p f ≡ mark_for (owners match world p) f
+  pub there : (p : ℕ) (m : Marked) → p < PLAYER_LIMIT → owner_in match p ≢ i → mark_at peer.marks p ≡ Some m
       → m.frame < has_of peer p
 
 -- a turn offers a word
@@ -80,9 +81,16 @@ TellsMarks match world bytes =
     (peer : Peered) (t : Turn) → opened peer bytes ≡ Ok (Plays t) → (p f : ℕ) → p < PLAYER_LIMIT → Offers t p f
     → mark_for (mark_at t.marks p) f ≡ mark_for (owners match world p) f
 
-record AreMarked (match : Match) (world : PeerWorld) : Type 0 where
-  each : (i : ℕ) (b : Beside) → world.machines i ≡ Some b → IsMarked match world i b.peer
-  told : (place : ℕ) (bytes : List ℕ) → slice_get world.sent place ≡ Some bytes → TellsMarks match world bytes
+pub record AreMarked (match : Match) (world : PeerWorld) : Type 0 where
+  pub each : (i : ℕ) (b : Beside) → world.machines i ≡ Some b → IsMarked match world i b.peer
+  pub told : (place : ℕ) (bytes : List ℕ) → slice_get world.sent place ≡ Some bytes → TellsMarks match world bytes
+
+-- and it comes of another, in which the owners knew the same of each word that was there; a mark that is known stays
+pub record AreMarkedOn (match : Match) (old new : PeerWorld) (m : Mirrors match old) : Type 0 where
+  pub marked : AreMarked match new
+  pub still : (p f : ℕ) → p < PLAYER_LIMIT → f < count m.world (owner_in match p) p
+      → mark_for (owners match new p) f ≡ mark_for (owners match old p) f
+  pub keeps : (j p : ℕ) (k : Marked) → p < PLAYER_LIMIT → known_by (old.machines j) p ≡ Some k → known_by (new.machines j) p ≡ Some k
 
 -- ---- how many words there are
 
@@ -100,7 +108,7 @@ module _ (match : Match) (peers : PeerWorld) (m : Mirrors match peers) where
   count_is i b p is = ap (λ (h : Holder). slice_index h.mesh.has p) (sym (here i b is).holds)
 
   -- nobody has more than the owner
-  has_few : (i : ℕ) (b : Beside) (p : ℕ) → peers.machines i ≡ Some b → has_of b.peer p ≤ at_owner p
+  pub has_few : (i : ℕ) (b : Beside) (p : ℕ) → peers.machines i ≡ Some b → has_of b.peer p ≤ at_owner p
   has_few i b p is = omega (arith, count_is i b p is, counts_most match m.world i p kept, kept.many p)
 
   -- nor offers more
@@ -569,6 +577,7 @@ record Alters (match : Match) (old new : PeerWorld) (m : Mirrors match old) (i :
       → mark_of_word b.peer p f ≡ mark_for (owners match old p) f
   there : (p : ℕ) (k : Marked) → p < PLAYER_LIMIT → owner_in match p ≢ i → mark_at b.peer.marks p ≡ Some k
       → k.frame < has_of b.peer p
+  keeps : (p : ℕ) (k : Marked) → p < PLAYER_LIMIT → known_by (old.machines i) p ≡ Some k → mark_at b.peer.marks p ≡ Some k
   told : IsMarked match new i b.peer → (place : ℕ) (bytes : List ℕ) → slice_get said place ≡ Some bytes
       → TellsMarks match new bytes
 
@@ -628,11 +637,22 @@ module _ (match : Match) (old new : PeerWorld) (m : Mirrors match old) (marked :
       marked.told h.0 bytes h.1 peer t opens p f l inside
       ∙ sym (still p f l (offers_few match old m h.0 bytes h.1 peer t opens p f inside))
 
-  altered : AreMarked match new
+  keeps : (j p : ℕ) (k : Marked) → p < PLAYER_LIMIT → known_by (old.machines j) p ≡ Some k → (j ≡ i) ⊎ (j ≡ i → ⊥)
+      → known_by (new.machines j) p ≡ Some k
+  keeps j p k l e (inl same) =
+      ap (λ n. known_by (new.machines n) p) same ∙ ap (λ o. known_by o p) is
+      ∙ a.keeps p k l (ap (λ n. known_by (old.machines n) p) (sym same) ∙ e)
+  keeps j p k l e (inr other) = ap (λ o. known_by o p) (apart j other) ∙ e
+
+  altered : AreMarkedOn match old new m
   altered = record {
-    each = λ j x e. each j x e (cases_eq j i);
-    told = λ place bytes e.
-        tells bytes (in_either said old.sent place bytes (ap (λ (bs : List (List ℕ)). slice_get bs place) (sym sent) ∙ e));
+    marked = record {
+      each = λ j x e. each j x e (cases_eq j i);
+      told = λ place bytes e.
+          tells bytes (in_either said old.sent place bytes (ap (λ (bs : List (List ℕ)). slice_get bs place) (sym sent) ∙ e));
+    };
+    still = still;
+    keeps = λ j p k l e. keeps j p k l e (cases_eq j i);
   }
 
 module _ (match : Match) (games : ℕ → Step) where
@@ -643,20 +663,21 @@ module _ (match : Match) (games : ℕ → Step) where
       acts_change match old i a.before was.seat was.word (marked.each i a.before a.was) (games i) old.sent a.deed a.after
       marked.told a.does
 
-  step_marked : (old new : PeerWorld) → Mirrors match old → AreMarked match old → IsStep match games old new
-      → AreMarked match new
+  step_marked : (old new : PeerWorld) (m : Mirrors match old) → AreMarked match old → IsStep match games old new
+      → AreMarkedOn match old new m
   step_marked old new m marked step = go step.step_is
     where
       i : ℕ
       i = step.machine
 
-      go : Opens match old new i ⊎ Acts (games i) old new i → AreMarked match new
+      go : Opens match old new i ⊎ Acts (games i) old new i → AreMarkedOn match old new m
       go (inl o) =
           altered match old new m marked i (record { session = o.session; peer = o.peer }) [] (record {
             sized = no_marks match old new i o;
             own = λ p f l e lt. ap (λ k. mark_for k f) (no_mark match old new i o p l ∙ sym (ap (λ x. known_by x p) o.fresh));
             others = λ p f l other lt. absurd (omega (arith, lt, no_words_yet match old new i o p l other));
             there = λ p k l other e. absurd (none_some k (sym (no_mark match old new i o p l) ∙ e));
+            keeps = λ p k l e. absurd (none_some k (sym (ap (λ x. known_by x p) o.fresh) ∙ e));
             told = λ here place bytes e. absurd (none_some bytes e);
           }) o.there step.others o.sent
       go (inr a) =
@@ -668,50 +689,37 @@ module _ (match : Match) (games : ℕ → Step) where
                 ∙ ap (λ x. mark_for (known_by x p) f) (sym a.was);
             others = changes.others;
             there = changes.there;
+            keeps = λ p k l e. changes.keeps p k l (sym (ap (λ x. known_by x p) a.was) ∙ e);
             told = λ now. said_tells match new i (games i) old.sent a.deed a.before a.after now a.does;
           }) a.is step.others a.sent
 
-  steps_marked : (old : PeerWorld) (worlds : List PeerWorld) (new : PeerWorld) → Mirrors match old → AreMarked match old
-      → AreSteps match games old worlds new → AreMarked match new
-  steps_marked old [] new m marked steps = subst (AreMarked match) (sym steps) marked
+  pub steps_marked : (old : PeerWorld) (worlds : List PeerWorld) (new : PeerWorld) (m : Mirrors match old) → AreMarked match old
+      → AreSteps match games old worlds new → AreMarkedOn match old new m
+  steps_marked old [] new m marked steps =
+      subst (λ (w : PeerWorld). AreMarkedOn match old w m) (sym steps)
+      (record { marked = marked; still = λ p f l lt. refl; keeps = λ j p k l e. e })
   steps_marked old (next ∷ more) new m marked steps =
-      steps_marked next more new (step_mirrors match games old next m steps.0) (step_marked old next m marked steps.0) steps.1
+      let on = step_mirrors match games old next m steps.0 in
+      let first = step_marked old next m marked steps.0 in
+      let rest = steps_marked next more new on.mirrors first.marked steps.1 in
+      let grown : (p : ℕ) → count m.world (owner_in match p) p ≤ count on.mirrors.world (owner_in match p) p =
+      λ p. omega (
+        arith,
+        rise match m.world m.from on.comes.0 (owner_in match p) p,
+        ap (λ (w : WordWorld). count w (owner_in match p) p) on.comes.1,
+      ) in
+      record {
+        marked = rest.marked;
+        still = λ p f l lt. rest.still p f l (omega (arith, lt, grown p)) ∙ first.still p f l lt;
+        keeps = λ j p k l e. rest.keeps j p k l (first.keeps j p k l e);
+      }
 
-  -- a mark that is known stays
-  step_keeps : (old new : PeerWorld) → Mirrors match old → AreMarked match old → IsStep match games old new
-      → (j p : ℕ) (k : Marked) → p < PLAYER_LIMIT → known_by (old.machines j) p ≡ Some k → known_by (new.machines j) p ≡ Some k
-  step_keeps old new m marked step j p k l e = go (cases_eq j step.machine)
-    where
-      i : ℕ
-      i = step.machine
-
-      acts : known_by (old.machines i) p ≡ Some k → Opens match old new i ⊎ Acts (games i) old new i
-          → known_by (new.machines i) p ≡ Some k
-      acts known (inl o) = absurd (none_some k (sym (ap (λ x. known_by x p) o.fresh) ∙ known))
-      acts known (inr a) =
-          ap (λ x. known_by x p) a.is
-          ∙ (changed old new m marked i a).keeps p k l (sym (ap (λ x. known_by x p) a.was) ∙ known)
-
-      go : (j ≡ i) ⊎ (j ≡ i → ⊥) → known_by (new.machines j) p ≡ Some k
-      go (inl same) =
-          ap (λ n. known_by (new.machines n) p) same
-          ∙ acts (ap (λ n. known_by (old.machines n) p) (sym same) ∙ e) step.step_is
-      go (inr apart) = ap (λ x. known_by x p) (step.others j apart) ∙ e
-
-  steps_keep : (old : PeerWorld) (worlds : List PeerWorld) (new : PeerWorld) → Mirrors match old → AreMarked match old
-      → AreSteps match games old worlds new → (j p : ℕ) (k : Marked) → p < PLAYER_LIMIT
-      → known_by (old.machines j) p ≡ Some k → known_by (new.machines j) p ≡ Some k
-  steps_keep old [] new m marked steps j p k l e = ap (λ (w : PeerWorld). known_by (w.machines j) p) steps ∙ e
-  steps_keep old (next ∷ more) new m marked steps j p k l e =
-      steps_keep next more new (step_mirrors match games old next m steps.0) (step_marked old next m marked steps.0) steps.1 j p k l
-      (step_keeps old next m marked steps.0 j p k l e)
-
-  always_marked : (world : PeerWorld) → IsPlayedTo match games world → AreMarked match world
+  pub always_marked : (world : PeerWorld) → IsPlayedTo match games world → AreMarked match world
   always_marked world played =
-      steps_marked nobody played.0 world (mirrors_nobody match games) (record {
+      (steps_marked nobody played.0 world (mirrors_nobody match games) (record {
         each = λ i b e. absurd (none_some b e);
         told = λ place bytes e. absurd (none_some bytes e);
-      }) played.1
+      }) played.1).marked
 
 pub who_has_the_word_has_its_mark : WhoHasTheWordHasItsMark
 who_has_the_word_has_its_mark match games world i p frame a owner played l has opened =
@@ -748,10 +756,9 @@ acts_put match games old next m marked i a player frame mark deed =
 
 pub what_was_put_is_known : WhatWasPutIsKnown
 what_was_put_is_known match games old next world worlds player frame i mark b played puts steps has =
-    ((steps_marked match games next worlds world later marked steps).each i b has.is).same (player - 1) frame put.inside has.there
+    (on.marked.each i b has.is).same (player - 1) frame put.inside has.there
     ∙ ap (λ o. mark_for o frame)
-    (steps_keep match games next worlds world later marked steps (owner_in match (player - 1)) (player - 1)
-    (record { frame = frame; mark = mark }) put.inside put.known)
+    (on.keeps (owner_in match (player - 1)) (player - 1) (record { frame = frame; mark = mark }) put.inside put.known)
     ∙ mark_here (record { frame = frame; mark = mark })
   where
     m : Mirrors match old
@@ -761,10 +768,13 @@ what_was_put_is_known match games old next world worlds player frame i mark b pl
     before = always_marked match games old played
 
     later : Mirrors match next
-    later = step_mirrors match games old next m puts.step
+    later = (step_mirrors match games old next m puts.step).mirrors
 
     marked : AreMarked match next
-    marked = step_marked match games old next m before puts.step
+    marked = (step_marked match games old next m before puts.step).marked
+
+    on : AreMarkedOn match next world later
+    on = steps_marked match games next worlds world later marked steps
 
     put : IsPut match next player frame mark
     put = acts_put match games old next m before puts.step.machine puts.acts player frame mark puts.deed
