@@ -1,13 +1,11 @@
 -- Which marks count, and when an epoch is over.
-use Rattle.std.specs.Prelude.{◌≡◌, ℕ, zero, suc, ◌+◌, ◌-◌, ◌≤◌, ◌||◌, Bool, false, nat_lt, not, is_some, Option, None, Some, if◌then◌else◌}
+use Rattle.std.specs.Prelude.{ℕ, zero, suc, ◌+◌, ◌-◌, ◌≤◌, ◌||◌, Bool, false, nat_lt, not, is_some, Option, None, Some, if◌then◌else◌}
 use Rattle.roll_epoch.specs.Ends.{is_void, owner_of, IsEnd, Told}
 use Rattle.roll_epoch.specs.Faults.{fault_of}
 use Rattle.roll_epoch.specs.declared.faults.MarkFault.{MarkFault}
 use Rattle.roll_epoch.specs.declared.faults.MarkFault.TheVariants.{Threshold, Ticket}
 use Rattle.roll_epoch.specs.declared.marks.Ending.{Ending}
 use Rattle.roll_frame.specs.Settings.{most_threshold}
-use Rattle.roll_mesh.specs.Machines.{is_in}
-use Rattle.roll_mesh.specs.declared.limits.TheConstants.{PLAYER_LIMIT}
 use Rattle.roll_peer.specs.Marking.{is_numbered, voided}
 use Rattle.roll_peer.specs.Marks.{mark_at}
 use Rattle.roll_peer.specs.Peered.{Peered}

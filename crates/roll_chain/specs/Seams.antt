@@ -1,5 +1,5 @@
 -- How the next epoch opens at a machine.
-use Rattle.std.specs.Prelude.{ℕ, ◌==◌, ◌&&◌, List, map, Bool, true, false, not, Option, None, if◌then◌else◌, replicate, slice_index}
+use Rattle.std.specs.Prelude.{ℕ, ◌==◌, ◌&&◌, List, map, Bool, true, false, not, Option, if◌then◌else◌, slice_index}
 use Rattle.std.specs.List.{list_any, range_with_len}
 use Rattle.roll_epoch.specs.Ends.{owner_of}
 use Rattle.roll_epoch.specs.Successions.{stays, successor}
@@ -7,7 +7,7 @@ use Rattle.roll_epoch.specs.declared.marks.Ending.{Ending}
 use Rattle.roll_epoch.specs.declared.terms.Terms.{Terms}
 use Rattle.roll_frame.specs.declared.settings.Settings.{Settings}
 use Rattle.roll_member.specs.Seam.{settings_after}
-use Rattle.roll_mesh.specs.declared.limits.TheConstants.{MACHINE_LIMIT, PLAYER_LIMIT}
+use Rattle.roll_mesh.specs.declared.limits.TheConstants.{MACHINE_LIMIT}
 use Rattle.roll_peer.specs.Following.{seating_at as sits_at}
 use Rattle.roll_peer.specs.Marks.{each_player}
 use Rattle.roll_peer.specs.Peered.{Peered}
