@@ -5,4 +5,7 @@ pub mod Ends
 pub mod Bits
 pub mod Judged
 pub mod Together
+pub mod Lasting
+pub mod LaterOn
+pub mod AnyTime
 pub mod OneNumber

@@ -39,7 +39,7 @@ use Rattle.roll_wire.specs.declared.datagram.Marked.{Marked}
 use Rattle.roll_chain.specs.Judging.{told_by}
 use Rattle.roll_chain.specs.Rows.{counted_at, is_nobody, left_in, lefts, rows_at, rows_known, rows_until}
 use Rattle.roll_chain.specs.Seams.{next_terms}
-use Rattle.roll_chain.specs.Together.{EndsSo, TheyGoOnTogether}
+use Rattle.roll_chain.specs.Together.{EndsSo}
 use Rattle.roll_chain.specs.declared.chain.Chain.{Chain}
 use Rattle.roll_chain.specs.declared.rows.TheConstants.{ALL}
 use Rattle.roll_chain.proofs.Judged.{judged_alike}
@@ -49,7 +49,7 @@ use Rattle.roll_chain.proofs.Judged.{judged_alike}
 pub at_each : {X : Type 0} (f : ℕ → X) (p : ℕ) (d : X) → p < PLAYER_LIMIT → slice_index_or (each_player f) p d ≡ f p
 at_each f p d l = get_or-map-range_with_len f 0 PLAYER_LIMIT p p d l (omega arith)
 
-rows_below : (mesh : Seated) (n p : ℕ) → p < n → rows_until mesh n ≤ rows_at mesh p
+pub rows_below : (mesh : Seated) (n p : ℕ) → p < n → rows_until mesh n ≤ rows_at mesh p
 unfolding rows_until
 rows_below mesh zero p l = absurd (omega (arith, l))
 rows_below mesh (suc n) p l = go (cases_lt p n) (rows_below mesh n p)
@@ -63,12 +63,12 @@ rows_below mesh (suc n) p l = go (cases_lt p n) (rows_below mesh n p)
         subst (λ (k : ℕ). min (rows_until mesh n) (rows_at mesh n) ≤ rows_at mesh k) e least
 
 -- a mark in the rows before a frame
-record IsInRows (end : ℕ) (left : Option ℕ) (marked : Option Marked) (m : Marked) : Type 0 where
-  is : marked ≡ Some m
-  below : m.frame < end
-  there : is_there left m.frame ≡ true
+pub record IsInRows (end : ℕ) (left : Option ℕ) (marked : Option Marked) (m : Marked) : Type 0 where
+  pub is : marked ≡ Some m
+  pub below : m.frame < end
+  pub there : is_there left m.frame ≡ true
 
-in_rows_is : (end : ℕ) (left : Option ℕ) (marked : Option Marked) (m : Marked) → in_rows end left marked ≡ Some m
+pub in_rows_is : (end : ℕ) (left : Option ℕ) (marked : Option Marked) (m : Marked) → in_rows end left marked ≡ Some m
     → IsInRows end left marked m
 in_rows_is end left None m e = absurd (none_some m e)
 in_rows_is end left (Some x) m e = go (nat_lt x.frame end && is_there left x.frame) refl e
@@ -81,7 +81,7 @@ in_rows_is end left (Some x) m e = go (nat_lt x.frame end && is_there left x.fra
         (record { is = refl; below = ltb-true x.frame end both.0; there = both.1 })
     go false t e = absurd (none_some m e)
 
-in_rows_so : (end : ℕ) (left : Option ℕ) (m : Marked) → m.frame < end → is_there left m.frame ≡ true
+pub in_rows_so : (end : ℕ) (left : Option ℕ) (m : Marked) → m.frame < end → is_there left m.frame ≡ true
     → in_rows end left (Some m) ≡ Some m
 in_rows_so end left m l t =
     ap (λ (b : Bool). if b then Some m else None)
@@ -97,7 +97,7 @@ unless_void_is terms giver (Some x) m e = go (is_void x.mark giver terms) e
     go false e = e
 
 -- an end isn't over the rows that are known
-end_low : (told : Told) (settled : ℕ) (e : Ending) → IsEnd told settled e → e.frame ≤ settled
+pub end_low : (told : Told) (settled : ℕ) (e : Ending) → IsEnd told settled e → e.frame ≤ settled
 end_low told settled e end =
     omega (
       arith,
@@ -107,7 +107,7 @@ end_low told settled e end =
           (mark_in told settled e.player) end.marked end.counts)).below,
     )
 
-mark_for_is : (marked : Option Marked) (m : Marked) → mark_for marked m.frame ≡ Some m.mark → marked ≡ Some m
+pub mark_for_is : (marked : Option Marked) (m : Marked) → mark_for marked m.frame ≡ Some m.mark → marked ≡ Some m
 mark_for_is None m e = absurd (none_some m.mark e)
 mark_for_is (Some x) m e = go (x.frame == m.frame) refl e
   where
@@ -118,18 +118,42 @@ mark_for_is (Some x) m e = go (x.frame == m.frame) refl e
         λ k. Some (record { frame = frames k; mark = marks k })
     go false t e = absurd (none_some m.mark e)
 
-own_frame : (n : ℕ) → (n == n) ≡ true
+pub own_frame : (n : ℕ) → (n == n) ≡ true
 own_frame n = eq-eqb n n refl
 
-options_same : (x y : Option Marked) → ((m : Marked) → x ≡ Some m → y ≡ Some m) → ((m : Marked) → y ≡ Some m → x ≡ Some m)
+pub options_same : (x y : Option Marked) → ((m : Marked) → x ≡ Some m → y ≡ Some m) → ((m : Marked) → y ≡ Some m → x ≡ Some m)
     → x ≡ y
 options_same None None f g = refl
 options_same None (Some m) f g = g m refl
 options_same (Some m) y f g = sym (f m refl)
 
-leaving_is : (end : ℕ) (left : Option ℕ) → leaving_at end left ≡ option_map_or (λ n. min n end) left end
+pub leaving_is : (end : ℕ) (left : Option ℕ) → leaving_at end left ≡ option_map_or (λ n. min n end) left end
 leaving_is end None = refl
 leaving_is end (Some n) = refl
+
+-- what is told of a player before a frame
+pub told_at : (chain : Chain) (peer : Peered) (end p : ℕ) → p < PLAYER_LIMIT
+    → mark_in (told_by chain peer) end p ≡ in_rows end (left_in peer.member.mesh p) (counted_at peer p)
+told_at chain peer end p l =
+    λ k. in_rows end (at_each (left_in peer.member.mesh) p None l k) (at_each (counted_at peer) p None l k)
+
+-- of two machines
+pub left_by_each : (one other : Seated) (end : ℕ)
+    → ((p : ℕ) → p < PLAYER_LIMIT → leaving_at end (left_in one p) ≡ leaving_at end (left_in other p))
+    → LeftAlike end (lefts one) (lefts other)
+left_by_each one other end same = record {
+  many = length-map-range_with_len (left_in one) 0 PLAYER_LIMIT ∙ sym (length-map-range_with_len (left_in other) 0 PLAYER_LIMIT);
+  places = λ p. go p (cases_lt p PLAYER_LIMIT);
+}
+  where
+    go : (p : ℕ) → (p < PLAYER_LIMIT) ⊎ (PLAYER_LIMIT ≤ p)
+        → leaving_at end (slice_index_or (lefts one) p None) ≡ leaving_at end (slice_index_or (lefts other) p None)
+    go p (inl l) =
+        ap (leaving_at end) (at_each (left_in one) p None l) ∙ same p l ∙ sym (ap (leaving_at end) (at_each (left_in other) p None l))
+    go p (inr past) =
+        ap (leaving_at end) (get_or_past (lefts one) p None (omega (arith, past, length-map-range_with_len (left_in one) 0 PLAYER_LIMIT)))
+        ∙ sym (ap (leaving_at end) (get_or_past (lefts other) p None
+        (omega (arith, past, length-map-range_with_len (left_in other) 0 PLAYER_LIMIT))))
 
 -- ---- a machine of a world
 
@@ -265,7 +289,9 @@ module _ (match : Match) (games : ℕ → Step) (peers : PeerWorld) (played : Is
   -- a mark of a row before the end that one counts, the other does
   counts_too : (k q : ℕ) (x y : Beside) (p end : ℕ) (mark : Marked) → peers.machines k ≡ Some x → peers.machines q ≡ Some y
       → IsHere x q → IsHere y k → p < PLAYER_LIMIT → IsOf x p end → IsOf y p end
-      → (mark_at x.peer.marks p ≡ Some mark → mark_at y.peer.marks p ≡ Some mark → is_in x.peer.voids p ≡ is_in y.peer.voids p)
+      → (mark_at x.peer.marks p ≡ Some mark → mark_at y.peer.marks p ≡ Some mark → mark.frame < end
+      → is_there (left_in x.peer.member.mesh p) mark.frame ≡ true → is_there (left_in y.peer.member.mesh p) mark.frame ≡ true
+      → is_in x.peer.voids p ≡ is_in y.peer.voids p)
       → in_rows end (left_in x.peer.member.mesh p) (counted_at x.peer p) ≡ Some mark
       → in_rows end (left_in y.peer.member.mesh p) (counted_at y.peer p) ≡ Some mark
   counts_too k q x y p end mark is_x is_y here_x here_y l of_x of_y judged found =
@@ -303,10 +329,14 @@ module _ (match : Match) (games : ℕ → Step) (peers : PeerWorld) (played : Is
           ∙ ap (λ o. mark_for o mark.frame) fine.1
           ∙ ap (λ (b : Bool). if b then Some mark.mark else None) (own_frame mark.frame))
 
+      void_same : is_in x.peer.voids p ≡ is_in y.peer.voids p
+      void_same =
+          judged fine.1 known_y row.below row.there (ap (λ (o : Option ℕ). is_there o mark.frame) of_y.left ∙ it_y.there)
+
       counted_y : counted_at y.peer p ≡ Some mark
       counted_y =
           of_y.counted_is
-          ∙ ap (λ (b : Bool). if b then None else mark_at y.peer.marks p) (sym (judged fine.1 known_y) ∙ fine.0)
+          ∙ ap (λ (b : Bool). if b then None else mark_at y.peer.marks p) (sym void_same ∙ fine.0)
           ∙ known_y
 
   counted_none : (i p : ℕ) (b : Beside) → peers.machines i ≡ Some b → nobody p ≡ true → counted_at b.peer p ≡ None
@@ -316,22 +346,18 @@ module _ (match : Match) (games : ℕ → Step) (peers : PeerWorld) (played : Is
   left_none : (i p : ℕ) (b : Beside) → peers.machines i ≡ Some b → nobody p ≡ true → left_in b.peer.member.mesh p ≡ None
   left_none i p b is t = ap (λ (x : Bool). if x then None else left_at b.peer.member.mesh.machine p) (nobody_is i b p is ∙ t)
 
-  -- ---- two machines where the epoch is over
+  -- ---- two machines that know where the epoch ends
 
   module _ (i j : ℕ) (a b : Beside) (one other : Chain) (e f : Ending)
       (ends_a : EndsSo peers i a one e) (ends_b : EndsSo peers j b other f) (here_a : IsHere a j) (here_b : IsHere b i)
       (terms : one.terms ≡ other.terms) (profile : one.profile ≡ other.profile) (comers : one.comers ≡ other.comers)
-      (end : ℕ) (low_a : end ≤ rows_known a.peer.member.mesh) (low_b : end ≤ rows_known b.peer.member.mesh) where
+      (end : ℕ) (low_a : end ≤ rows_known a.peer.member.mesh) (low_b : end ≤ rows_known b.peer.member.mesh)
+      (within_a : end ≤ e.frame) (within_b : end ≤ f.frame) where
     of_a : (p : ℕ) → p < PLAYER_LIMIT → nobody p ≡ false → IsOf a p end
     of_a p l t = is_of i a p end ends_a.is l t low_a
 
     of_b : (p : ℕ) → p < PLAYER_LIMIT → nobody p ≡ false → IsOf b p end
     of_b p l t = is_of j b p end ends_b.is l t low_b
-
-    told_at : (chain : Chain) (peer : Peered) (p : ℕ) → p < PLAYER_LIMIT
-        → mark_in (told_by chain peer) end p ≡ in_rows end (left_in peer.member.mesh p) (counted_at peer p)
-    told_at chain peer p l =
-        λ k. in_rows end (at_each (left_in peer.member.mesh) p None l k) (at_each (counted_at peer) p None l k)
 
     rows_alike : (p : ℕ) → p < PLAYER_LIMIT
         → in_rows end (left_in a.peer.member.mesh p) (counted_at a.peer p)
@@ -348,14 +374,18 @@ module _ (match : Match) (games : ℕ → Step) (peers : PeerWorld) (played : Is
             options_same (in_rows end (left_in a.peer.member.mesh p) (counted_at a.peer p))
             (in_rows end (left_in b.peer.member.mesh p) (counted_at b.peer p))
             (λ mark. counts_too i j a b p end mark ends_a.is ends_b.is here_a here_b l (of_a p l some) (of_b p l some)
-            (λ x y. judged_alike one other a.peer b.peer p mark l x y terms profile comers ends_a.judged ends_b.judged))
+            (λ x y below s t. judged_alike one other a.peer b.peer p mark terms profile comers
+            (ends_a.judged p mark l (nobody_is i a p ends_a.is ∙ some) x (omega (arith, below, within_a)) s)
+            (ends_b.judged p mark l (nobody_is j b p ends_b.is ∙ some) y (omega (arith, below, within_b)) t)))
             (λ mark. counts_too j i b a p end mark ends_b.is ends_a.is here_b here_a l (of_b p l some) (of_a p l some)
-            (λ x y. judged_alike other one b.peer a.peer p mark l x y (sym terms) (sym profile) (sym comers) ends_b.judged ends_a.judged))
+            (λ x y below s t. judged_alike other one b.peer a.peer p mark (sym terms) (sym profile) (sym comers)
+            (ends_b.judged p mark l (nobody_is j b p ends_b.is ∙ some) x (omega (arith, below, within_b)) s)
+            (ends_a.judged p mark l (nobody_is i a p ends_a.is ∙ some) y (omega (arith, below, within_a)) t)))
 
     are_alike : AreAlike (told_by one a.peer) (told_by other b.peer) end
     are_alike = record {
       terms = terms;
-      rows = λ p l. told_at one a.peer p l ∙ rows_alike p l ∙ sym (told_at other b.peer p l);
+      rows = λ p l. told_at one a.peer end p l ∙ rows_alike p l ∙ sym (told_at other b.peer end p l);
     }
 
     left_same : (p : ℕ) → p < PLAYER_LIMIT
@@ -371,28 +401,15 @@ module _ (match : Match) (games : ℕ → Step) (peers : PeerWorld) (played : Is
             ∙ sym (leaving_is end (left_at b.peer.member.mesh.machine p)) ∙ ap (leaving_at end) (sym (of_b p l some).left)
 
     left_alike : LeftAlike end (lefts a.peer.member.mesh) (lefts b.peer.member.mesh)
-    left_alike = record {
-      many = length-map-range_with_len (left_in a.peer.member.mesh) 0 PLAYER_LIMIT
-          ∙ sym (length-map-range_with_len (left_in b.peer.member.mesh) 0 PLAYER_LIMIT);
-      places = λ p. go p (cases_lt p PLAYER_LIMIT);
-    }
-      where
-        go : (p : ℕ) → (p < PLAYER_LIMIT) ⊎ (PLAYER_LIMIT ≤ p)
-            → leaving_at end (slice_index_or (lefts a.peer.member.mesh) p None)
-            ≡ leaving_at end (slice_index_or (lefts b.peer.member.mesh) p None)
-        go p (inl l) =
-            ap (leaving_at end) (at_each (left_in a.peer.member.mesh) p None l) ∙ left_same p l
-            ∙ sym (ap (leaving_at end) (at_each (left_in b.peer.member.mesh) p None l))
-        go p (inr past) =
-            ap (leaving_at end) (get_or_past (lefts a.peer.member.mesh) p None
-            (omega (arith, past, length-map-range_with_len (left_in a.peer.member.mesh) 0 PLAYER_LIMIT)))
-            ∙ sym (ap (leaving_at end) (get_or_past (lefts b.peer.member.mesh) p None
-            (omega (arith, past, length-map-range_with_len (left_in b.peer.member.mesh) 0 PLAYER_LIMIT))))
+    left_alike = left_by_each a.peer.member.mesh b.peer.member.mesh end left_same
 
--- ---- the law
+-- ---- at one moment
 
-pub they_go_on_together : TheyGoOnTogether
-they_go_on_together match games peers i j a b one other e f played ends_a ends_b here_a here_b terms profile comers =
+pub they_end_together : (match : Match) (games : ℕ → Step) (peers : PeerWorld) (i j : ℕ) (a b : Beside) (one other : Chain) (e f : Ending)
+    → IsPlayedTo match games peers → EndsSo peers i a one e → EndsSo peers j b other f
+    → IsHere a j → IsHere b i → one.terms ≡ other.terms → one.profile ≡ other.profile → one.comers ≡ other.comers
+    → (e ≡ f) × (next_terms one a.peer e ≡ next_terms other b.peer f)
+they_end_together match games peers i j a b one other e f played ends_a ends_b here_a here_b terms profile comers =
     (same, next)
   where
     mesh_a : Seated
@@ -402,10 +419,10 @@ they_go_on_together match games peers i j a b one other e f played ends_a ends_b
     mesh_b = b.peer.member.mesh
 
     end_a : IsEnd (told_by one a.peer) (rows_known mesh_a) e
-    end_a = ends_a.over.ending.end
+    end_a = ends_a.ending.end
 
     end_b : IsEnd (told_by other b.peer) (rows_known mesh_b) f
-    end_b = ends_b.over.ending.end
+    end_b = ends_b.ending.end
 
     low_e : e.frame ≤ rows_known mesh_a
     low_e = end_low (told_by one a.peer) (rows_known mesh_a) e end_a
@@ -418,12 +435,12 @@ they_go_on_together match games peers i j a b one other e f played ends_a ends_b
         ends_are_one (told_by other b.peer) (rows_known mesh_b) e f
         (of_one_past_one_end (told_by one a.peer) (told_by other b.peer) e.frame (rows_known mesh_a) (rows_known mesh_b) e
         (are_alike match games peers played i j a b one other e f ends_a ends_b here_a here_b terms profile comers e.frame low_e
-        (omega (arith, before, low_f))) (omega arith) (omega (arith, before, low_f)) end_a) end_b
+        (omega (arith, before, low_f)) (omega arith) (omega (arith, before))) (omega arith) (omega (arith, before, low_f)) end_a) end_b
     go (inr after) =
         sym (ends_are_one (told_by one a.peer) (rows_known mesh_a) f e
         (of_one_past_one_end (told_by other b.peer) (told_by one a.peer) f.frame (rows_known mesh_b) (rows_known mesh_a) f
         (are_alike match games peers played j i b a other one f e ends_b ends_a here_b here_a (sym terms) (sym profile) (sym comers)
-        f.frame low_f (omega (arith, after, low_e))) (omega arith) (omega (arith, after, low_e)) end_b) end_a)
+        f.frame low_f (omega (arith, after, low_e)) (omega arith) (omega (arith, after))) (omega arith) (omega (arith, after, low_e)) end_b) end_a)
 
     same : e ≡ f
     same = go (cases_lt e.frame f.frame)
@@ -432,5 +449,5 @@ they_go_on_together match games peers i j a b one other e f played ends_a ends_b
     next =
         of_one_past_one_next one.terms e (lefts mesh_a) (lefts mesh_b)
         (left_alike match games peers played i j a b one other e f ends_a ends_b here_a here_b terms profile comers e.frame low_e
-        (omega (arith, low_f, ap (λ (x : Ending). x.frame) same)))
+        (omega (arith, low_f, ap (λ (x : Ending). x.frame) same)) (omega arith) (omega (arith, ap (λ (x : Ending). x.frame) same)))
         ∙ (λ k. successor (terms k) (same k) (lefts mesh_b))

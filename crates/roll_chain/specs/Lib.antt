@@ -5,4 +5,5 @@ pub mod Judging
 pub mod Seams
 pub mod Sharing
 pub mod Together
+pub mod Lasting
 pub mod OneNumber

@@ -12,5 +12,5 @@ mod sharing;
 
 pub use chain::Chain;
 pub use comers::ticket_for;
-pub use laws::{of_one_number_one_next, they_go_on_together};
+pub use laws::{it_is_later, of_one_number_one_next, over_stays, they_go_on_at_any_time};
 pub use seam::Opening;
