@@ -31,7 +31,7 @@ they_go_on_at_any_time match games world later worlds i j a after b one other e 
     ends_after : EndsSo later i after one e
     ends_after = record {
       is = ended.is;
-      judged = stays_judged one a.peer after.peer on ended.voids e.frame low ended.ends.judged;
+      judged = stays_judged one a.peer after.peer on e.frame ended.voids low ended.ends.judged;
       ending = over_stays one a.peer after.peer e on ended.voids ended.ends.ending;
     }
 
@@ -44,4 +44,4 @@ they_go_on_at_any_time match games world later worlds i j a after b one other e 
     next : next_terms one a.peer e ≡ next_terms other b.peer f
     next =
         of_one_past_one_next one.terms e (lefts a.peer.member.mesh) (lefts after.peer.member.mesh)
-        (left_alike_still one a.peer after.peer on ended.voids e.frame low) ∙ together.1
+        (left_alike_still one a.peer after.peer on e.frame ended.voids low) ∙ together.1

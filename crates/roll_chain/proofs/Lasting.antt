@@ -1,5 +1,5 @@
 -- An epoch that is over stays over.
-use Rattle.std.proofs.Common.{◌≡◌, ◌⊎◌, ◌∙◌, ℕ, zero, suc, ◌<◌, ◌≤◌, refl, ap, sym, arith, Bool, true, false, inl, inr, List, Option, Some, None}
+use Rattle.std.proofs.Common.{◌≡◌, ◌⊎◌, ◌∙◌, ℕ, zero, suc, ◌<◌, ◌≤◌, refl, ap, sym, arith, Bool, true, false, inl, inr, Option, Some, None}
 use Rattle.std.specs.Prelude.{◌||◌, if◌then◌else◌, is_some, min, nat_le, slice_index}
 use Rattle.std.proofs.lemmas.Bool.{cases_Bool, lt-ltb, ltb-true}
 use Rattle.roll_epoch.proofs.EndLaws.{of_one_past_one_end}
@@ -16,7 +16,7 @@ use Rattle.roll_peer.specs.Marks.{mark_at}
 use Rattle.roll_peer.specs.Peered.{Peered}
 use Rattle.roll_wire.specs.declared.datagram.Marked.{Marked}
 use Rattle.roll_chain.specs.Judging.{told_by}
-use Rattle.roll_chain.specs.Lasting.{IsLater, OverStays}
+use Rattle.roll_chain.specs.Lasting.{IsLater, KeepsVoids, OverStays}
 use Rattle.roll_chain.specs.Rows.{counted_at, is_nobody, left_in, lefts, rows_at, rows_known, rows_until}
 use Rattle.roll_chain.specs.Together.{IsJudgedTo}
 use Rattle.roll_chain.specs.declared.chain.Chain.{Chain}
@@ -44,8 +44,8 @@ unvoided : (void : Bool) (marked : Option Marked) (m : Marked) → (if void then
 unvoided true marked m e = absurd (none_some m e)
 unvoided false marked m e = (refl, e)
 
-module _ (chain : Chain) (old new : Peered) (later : IsLater old new) (voids : new.voids ≡ old.voids)
-    (end : ℕ) (low : end ≤ rows_known old.member.mesh) where
+module _ (chain : Chain) (old new : Peered) (later : IsLater old new) (end : ℕ) (voids : KeepsVoids end old new)
+    (low : end ≤ rows_known old.member.mesh) where
   abbrev was : Machine
   was = old.member.mesh.machine
 
@@ -57,9 +57,6 @@ module _ (chain : Chain) (old new : Peered) (later : IsLater old new) (voids : n
 
   nobody_same : (p : ℕ) → is_nobody new.member.mesh p ≡ is_nobody old.member.mesh p
   nobody_same p = ap (λ (seat : Seat). nat_le seat.machines (owner_of seat p)) later.seat
-
-  void_same : (p : ℕ) → is_in old.voids p ≡ is_in new.voids p
-  void_same p = ap (λ (vs : List Bool). is_in vs p) (sym voids)
 
   -- a player of the match
   module _ (p : ℕ) (l : p < PLAYER_LIMIT) (there : is_nobody old.member.mesh p ≡ false) where
@@ -111,7 +108,7 @@ module _ (chain : Chain) (old new : Peered) (later : IsLater old new) (voids : n
         let row = in_rows_is end (left_in old.member.mesh p) (counted_at old p) m found in
         let fine = unvoided (is_in old.voids p) (mark_at old.marks p) m (sym counted_old ∙ row.is) in
         let known : mark_at new.marks p ≡ Some m = later.keeps p m l fine.1 in
-        let void : is_in new.voids p ≡ false = sym (void_same p) ∙ fine.0 in
+        let void : is_in new.voids p ≡ false = voids p m l fine.1 row.below ∙ fine.0 in
         let t : is_there (left_at was p) m.frame ≡ true = ap (λ (o : Option ℕ). is_there o m.frame) (sym left_old) ∙ row.there in
         (λ k. in_rows end (left_new k) ((counted_new ∙ (λ h. if void h then None else known h)) k))
         ∙ in_rows_so end (left_at is p) m row.below (there_later m.frame row.below t)
@@ -124,7 +121,7 @@ module _ (chain : Chain) (old new : Peered) (later : IsLater old new) (voids : n
         let t : is_there (left_at was p) m.frame ≡ true =
         there_before m.frame (ap (λ (o : Option ℕ). is_there o m.frame) (sym left_new) ∙ row.there) in
         let known : mark_at old.marks p ≡ Some m = later.learns p m l (has_it m.frame row.below t) fine.1 in
-        let void : is_in old.voids p ≡ false = void_same p ∙ fine.0 in
+        let void : is_in old.voids p ≡ false = sym (voids p m l known row.below) ∙ fine.0 in
         (λ k. in_rows end (left_old k) ((counted_old ∙ (λ h. if void h then None else known h)) k))
         ∙ in_rows_so end (left_at was p) m row.below t
 
@@ -172,7 +169,7 @@ module _ (chain : Chain) (old new : Peered) (later : IsLater old new) (voids : n
       let t_old : is_there (left_at was p) m.frame ≡ true =
       there_before p l some m.frame (ap (λ (o : Option ℕ). is_there o m.frame) (sym (left_new p l some)) ∙ t) in
       let at_old : mark_at old.marks p ≡ Some m = later.learns p m l (has_it p l some m.frame below t_old) at in
-      sym (void_same p) ∙ judged p m l some at_old below (ap (λ (o : Option ℕ). is_there o m.frame) (left_old p l some) ∙ t_old)
+      voids p m l at_old below ∙ judged p m l some at_old below (ap (λ (o : Option ℕ). is_there o m.frame) (left_old p l some) ∙ t_old)
 
   -- each player
   rows_same : (p : ℕ) → p < PLAYER_LIMIT
@@ -216,5 +213,5 @@ over_stays chain old new e later voids ending =
     let low : e.frame ≤ rows_known old.member.mesh = end_low (told_by chain old) (rows_known old.member.mesh) e ending.end in
     record {
       end = of_one_past_one_end (told_by chain old) (told_by chain new) e.frame (rows_known old.member.mesh) (rows_known new.member.mesh) e
-          (alike chain old new later voids e.frame low) (omega arith) (known_still chain old new later voids e.frame low) ending.end;
+          (alike chain old new later e.frame voids low) (omega arith) (known_still chain old new later e.frame voids low) ending.end;
     }

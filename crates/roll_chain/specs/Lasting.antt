@@ -1,7 +1,7 @@
 -- An epoch that is over stays over.
 use Rattle.std.specs.Prelude.{◌≡◌, ℕ, ◌<◌, ◌≤◌, List, Some}
 use Rattle.roll_epoch.specs.declared.marks.Ending.{Ending}
-use Rattle.roll_mesh.specs.Machines.{left_at}
+use Rattle.roll_mesh.specs.Machines.{is_in, left_at}
 use Rattle.roll_mesh.specs.Worlds.{Match}
 use Rattle.roll_mesh.specs.declared.limits.TheConstants.{PLAYER_LIMIT}
 use Rattle.roll_peer.specs.MarkLaws.{has_of}
@@ -33,8 +33,13 @@ ItIsLater =
     → IsPlayedTo match games world → AreSteps match games world worlds later → world.machines i ≡ Some a
     → later.machines i ≡ Some b → IsLater a.peer b.peer
 
--- so where its epoch ends stays as it is, by the same mark, if it finds no mark void any more
+-- those marks of words before a frame that were void are void, and no others
+abbrev pub KeepsVoids : (end : ℕ) → (old new : Peered) → Type 0
+KeepsVoids end old new =
+    (p : ℕ) (m : Marked) → p < PLAYER_LIMIT → mark_at old.marks p ≡ Some m → m.frame < end → is_in new.voids p ≡ is_in old.voids p
+
+-- so where its epoch ends stays as it is, by the same mark, if it finds no mark before that void any more
 abbrev pub OverStays : Type 0
 OverStays =
-    (chain : Chain) (old new : Peered) (e : Ending) → IsLater old new → new.voids ≡ old.voids → IsEnding chain old e
+    (chain : Chain) (old new : Peered) (e : Ending) → IsLater old new → KeepsVoids e.frame old new → IsEnding chain old e
     → IsEnding chain new e

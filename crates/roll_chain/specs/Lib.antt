@@ -4,6 +4,6 @@ pub mod Rows
 pub mod Judging
 pub mod Seams
 pub mod Sharing
-pub mod Together
 pub mod Lasting
+pub mod Together
 pub mod OneNumber

@@ -13,6 +13,7 @@ use Rattle.roll_peer.specs.Requests.{Beside}
 use Rattle.roll_session.specs.Seen.{Step}
 use Rattle.roll_wire.specs.declared.datagram.Marked.{Marked}
 use Rattle.roll_chain.specs.Judging.{is_void_by, IsEnding}
+use Rattle.roll_chain.specs.Lasting.{KeepsVoids}
 use Rattle.roll_chain.specs.Rows.{is_nobody, left_in}
 use Rattle.roll_chain.specs.Seams.{next_terms}
 use Rattle.roll_chain.specs.declared.chain.Chain.{Chain}
@@ -29,12 +30,12 @@ pub record EndsSo (world : PeerWorld) (machine : ℕ) (beside : Beside) (chain :
   pub judged : IsJudgedTo e.frame chain beside.peer
   pub ending : IsEnding chain beside.peer e
 
--- a machine that knew it in one world, and in a later one, in which its network of that epoch is still there, found no mark void since then:
--- so it is with a machine that has gone on
+-- a machine that knew it in one world, and in a later one, in which its network of that epoch is still there, has found no mark before the
+-- end void since then: so it is with a machine that has gone on
 pub record EndedSo (world later : PeerWorld) (machine : ℕ) (before after : Beside) (chain : Chain) (e : Ending) : Type 0 where
   pub ends : EndsSo world machine before chain e
   pub is : later.machines machine ≡ Some after
-  pub voids : after.peer.voids ≡ before.peer.voids
+  pub voids : KeepsVoids e.frame before.peer after.peer
 
 -- whatever the machines of a match call, and whatever the network does with what they send: two of which neither regards the other as
 -- gone, and that opened an epoch alike, find the same end of it, by the same mark, and open the next one alike, its number too; also

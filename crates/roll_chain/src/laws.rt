@@ -7,8 +7,8 @@ ghost use Rattle.roll_chain.specs.Together.{TheyGoOnAtAnyTime};
 /// same mark, and open the next one alike, its number too, whatever the machines call and whatever the network does; also if one of
 /// them has gone on long before the other finds the end.
 /// Supposed is that they opened this epoch alike, with one profile and one number of comers; that both, when they found the end, had
-/// called `judge` since their networks learned of their last mark before it; and that the first finds no mark of this epoch void
-/// any more once it has gone on.
+/// called `judge` since their networks learned of their last mark before it; and that the first finds none of these marks void any
+/// more once it has gone on.
 pub fn they_go_on_at_any_time()
     ensures { TheyGoOnAtAnyTime }
 {}
@@ -20,7 +20,7 @@ pub fn it_is_later()
     ensures { ItIsLater }
 {}
 
-/// An epoch that is over stays over, with the same end by the same mark, unless a mark is found void later.
+/// An epoch that is over stays over, with the same end by the same mark, unless a mark before it is found void later.
 pub fn over_stays()
     ensures { OverStays }
 {}
