@@ -1,6 +1,6 @@
 -- What a relay makes of what comes and goes.
 use Rattle.std.specs.Prelude.{◌≡◌, ◌⊎◌, ℕ, List, [], ◌∷◌, replicate, take, Bool, true, false, not, ◌&&◌, ◌||◌, ◌==◌, nat_lt, Option, Some, None, Result, Ok, Err, if◌then◌else◌}
-use Rattle.roll_carry.specs.Carrying.{after_carried, after_handed, after_sent, after_taken, after_told, first_owed, first_waited_for, goes_at_once, Carrying}
+use Rattle.roll_carry.specs.Carrying.{after_carried, after_handed, after_sent, after_taken, after_told, first_owed, first_waited_for, goes_at_once, opened_carrying, Carrying}
 use Rattle.roll_carry.specs.Mapping.{after_map, heard_straight}
 use Rattle.roll_carry.specs.Reading.{map_of, parcels_of, tail_of}
 use Rattle.roll_carry.specs.Spelling.{area_text, datagram_of, given_by, maker_of, said_by, Carries, IsParcel, Maps, ParcelValue, Says}
@@ -20,6 +20,7 @@ use Rattle.roll_peer.specs.Sending.{after_send, can_carry, carried_key, is_lost,
 use Rattle.roll_peer.specs.declared.received.Ignored.{Ignored}
 use Rattle.roll_peer.specs.declared.received.Ignored.TheVariants.{NotSealed, NoDatagram}
 use Rattle.roll_peer.specs.declared.received.Received.{Received}
+use Rattle.roll_peer.specs.declared.settings.MatchSettings.{MatchSettings}
 use Rattle.roll_relay.specs.declared.relay.TheConstants.{KIND_AT}
 use Rattle.roll_relay.specs.declared.heard.Heard.{Heard}
 use Rattle.roll_relay.specs.declared.heard.Heard.TheVariants.{Straight, Map, Carried}
@@ -46,10 +47,28 @@ is_shut peer m = not (can_carry peer m)
 abbrev pub shut_of : Peered → List Bool
 shut_of peer = at_places (is_shut peer) nobody
 
+-- ---- who carries
+
+-- how many machines of a match carry for one another: all, or none if it isn't played so, or has two
+abbrev pub carriers_in : MatchSettings → ℕ
+carriers_in settings = if settings.carries && nat_lt 2 settings.machines then settings.machines else 0
+
+-- what a machine carries whose network has just been opened
+abbrev pub opened_beside : Peered → Carrying
+opened_beside peer = opened_carrying peer.settings.me (carriers_in peer.settings)
+
+-- whether machines carry for this one
+abbrev pub has_carriers : Carrying → Bool
+has_carriers here = nat_lt 0 here.map.machines
+
 -- ---- what comes
 
 abbrev pub kind_of : List ℕ → ℕ
 kind_of bytes = byte_at bytes KIND_AT
+
+-- the kind as which bytes are taken that came: where nobody carries they all come straight, as a hello does
+abbrev pub taken_kind : Carrying → List ℕ → ℕ
+taken_kind here bytes = if has_carriers here then kind_of bytes else 0
 
 -- whether it is a map, or has what is carried
 abbrev pub is_of_lines : (kind : ℕ) → Bool
@@ -154,12 +173,15 @@ IsIgnoredAs step now true is_carried old new bytes why = (map_in old.peer bytes 
 IsIgnoredAs step now false true old new bytes why = (parcels_in old.peer bytes ≡ Err why) × (new ≡ old)
 IsIgnoredAs step now false false old new bytes why = HearsBytes step old new now bytes (Err why)
 
--- why bytes aren't heard
-abbrev pub IsUnheard : Step → (now : ℕ) → (old new : Beside) → List ℕ → Ignored → Type 0
-IsUnheard step now old new bytes why =
-    IsIgnoredAs step now (kind_of bytes == MAP) (kind_of bytes == CARRIED) old new bytes why
+-- why bytes aren't heard that are taken as of such a kind
+abbrev pub IsUnheard : Step → (now kind : ℕ) → (old new : Beside) → List ℕ → Ignored → Type 0
+IsUnheard step now kind old new bytes why = IsIgnoredAs step now (kind == MAP) (kind == CARRIED) old new bytes why
 
 -- ---- what goes
+
+-- what is carried of a datagram, if it can be, and somebody carries
+unfoldable pub carried_of : Carrying → List ℕ → Option (List ℕ)
+carried_of here bytes = if has_carriers here then tail_of bytes else None
 
 -- a datagram is for a machine, of which this is carried, if it can be
 abbrev pub sending : Peered → (to : ℕ) → (tail : Option (List ℕ)) → Carrying → Carrying
@@ -173,7 +195,7 @@ is_at_once peer to (Some tail) here = goes_at_once here (shut_of peer) to tail
 
 -- what goes out at once of it
 abbrev pub at_once : Peered → (to : ℕ) → List ℕ → Carrying → Option (List ℕ)
-at_once peer to bytes here = if is_at_once peer to (tail_of bytes) here then Some bytes else None
+at_once peer to bytes here = if is_at_once peer to (carried_of here bytes) here then Some bytes else None
 
 -- a bye is for a machine
 abbrev pub leaving : Peered → (to : ℕ) → (tail : Option (List ℕ)) → Carrying → Carrying
@@ -188,7 +210,7 @@ told_map here = take here.map.machines here.map.lines
 abbrev pub IsMade : Seen → (now to : ℕ) → (before after : Peered) → (old new : Carrying) → Option (List ℕ) → Type 0
 IsMade s now to before after old new sent =
     (bytes : List ℕ) × IsSent s (meeting s (ticking now before)) to bytes
-    × (new ≡ sending after to (tail_of bytes) old) × (sent ≡ at_once after to bytes old)
+    × (new ≡ sending after to (carried_of old bytes) old) × (sent ≡ at_once after to bytes old)
 
 abbrev pub Sends : Seen → (now to : ℕ) → (before after : Peered) → (old new : Carrying) → Option (List ℕ) → Type 0
 Sends s now to before after old new sent =
@@ -200,7 +222,7 @@ Sends s now to before after old new sent =
 abbrev pub SaysBye : Peered → (to why : ℕ) → (old new : Carrying) → Option (List ℕ) → Type 0
 SaysBye peer to why old new None = new ≡ old
 SaysBye peer to why old new (Some bytes) =
-    (bytes ≡ text_for peer to (LeavesMatch why)) × (new ≡ leaving peer to (tail_of bytes) old)
+    (bytes ≡ text_for peer to (LeavesMatch why)) × (new ≡ leaving peer to (carried_of old bytes) old)
 
 -- the map goes to a machine
 abbrev pub TellsMap : Peered → (old new : Carrying) → (to : ℕ) → Option (ℕ × List ℕ) → Type 0

@@ -1,6 +1,6 @@
 //! What goes between machines whose line may be broken.
 ghost use Rattle.std.specs.Prelude.{◌≡◌, ℕ, ◌≤◌, nat_lt, List, length, true, Err, Ok, IfErr, IfOk, OnErr, if◌then◌else◌};
-ghost use Rattle.roll_carry.specs.Carrying.{opened_carrying, turned};
+ghost use Rattle.roll_carry.specs.Carrying.{turned};
 ghost use Rattle.roll_carry.specs.Mapping.{after_map, heard_straight};
 ghost use Rattle.roll_carry.specs.Reading.{parcels_in as parcels_of};
 ghost use Rattle.roll_carry.specs.Spelling.{datagram_of, IsParcel, ParcelValue, parcel_value};
@@ -11,14 +11,14 @@ ghost use Rattle.roll_peer.specs.Peered.{contact_at};
 ghost use Rattle.roll_peer.specs.Sending.{can_carry};
 ghost use Rattle.roll_peer.specs.Receiving.{byte_at, moment_of, sender_of};
 ghost use Rattle.roll_peer.specs.Requests.{HearsBytes};
-ghost use Rattle.roll_relay.specs.Relaying.{are_here, handing, hearing, is_of_lines, is_said, kind_of, map_in, parcels_in, ready_of, shut_of, text_in, Hears, HearsInside, HearsParcel, HearsParcels, HoldsParcels, IsUnheard};
+ghost use Rattle.roll_relay.specs.Relaying.{are_here, carriers_in, handing, has_carriers, hearing, is_of_lines, is_said, kind_of, map_in, opened_beside, parcels_in, ready_of, shut_of, taken_kind, text_in, Hears, HearsInside, HearsParcel, HearsParcels, HoldsParcels, IsUnheard};
 
 use crate::heard::Heard;
 use arrayvec::ArrayVec;
 use roll_carry::{CARRIED, Carrier, Hearing, MAP, Parcel, first_parcel, read_map, read_parcels};
 use roll_contact::seal::unseal;
 use roll_mesh::MACHINE_LIMIT;
-use roll_peer::{Ignored, Peer, Received};
+use roll_peer::{Ignored, MatchSettings, Peer, Received};
 use roll_session::Networked;
 use roll_wire::DATAGRAM_LIMIT;
 use std::alloc::{AllocError, Global};
@@ -38,7 +38,7 @@ type Machines = [bool; MACHINE_LIMIT];
 /// give always the same one.
 ///
 /// A program gives what came to `receive`, in the place of the peer's, makes a turn of the peer and then `turn`, sends what `send` makes
-/// for each other machine, and then what `next` gives, until it gives nothing. Two machines need none of it.
+/// for each other machine, and then what `next` gives, until it gives nothing.
 #[derive(Debug, Drop)]
 pub struct Relay {
     pub(crate) carrier: Carrier,
@@ -54,18 +54,37 @@ impl Model for Relay {
 }
 
 impl Relay {
-    /// Nobody is known to hear anybody.
+    /// Nobody is known to hear anybody. If the match isn't played so that machines carry for one another, or has two, nobody carries:
+    /// then all goes straight.
     ///
     /// # Errors
     ///
     /// If there is no memory.
     pub fn open(alloc: Global, peer: &Peer) -> Result<Relay, AllocError>
-        ensures { IfOk result (λ relay. relay
-            ≡ opened_carrying peer.now.settings.me peer.now.settings.machines) }
+        ensures { IfOk result (λ relay. relay ≡ opened_beside peer.now) }
     {
         let settings = peer.settings();
-        let carrier = Carrier::new(alloc, settings.me, settings.machines)?;
+        let carriers = carriers_in(settings);
+        let carrier = Carrier::new(alloc, settings.me, carriers)?;
         Ok(Relay { carrier })
+    }
+
+    /// Whether machines carry for this one.
+    pub(crate) fn has_carriers(&self) -> bool
+        ensures { result ≡ has_carriers self.now }
+    {
+        self.carrier.map().machines > 0
+    }
+
+    /// As which kind bytes are taken that came.
+    fn taken_kind(&self, bytes: &[u8]) -> u8
+        ensures { result ≡ taken_kind self.now bytes.now }
+    {
+        if self.has_carriers() {
+            byte_of(bytes, KIND_AT)
+        } else {
+            0
+        }
     }
 
     /// A turn begins, at the moment that the peer's clock shows.
@@ -104,14 +123,15 @@ impl Relay {
               carrying = self.new;
             })
             bytes.now) }
-        ensures said { IfOk result (λ heard. is_said (kind_of bytes.now) heard ≡ true) }
-        ensures ignored { IfErr result (IsUnheard S.step now
+        ensures said { IfOk result
+            (λ heard. is_said (taken_kind self.old bytes.now) heard ≡ true) }
+        ensures ignored { IfErr result (IsUnheard S.step now (taken_kind self.old bytes.now)
             (record { session = S.seen session.old; peer = peer.old })
             (record { session = S.seen session.new; peer = peer.new }) bytes.now) }
         ensures unchanged { OnErr result (self.new ≡ self.old) }
         ensures keeps { S.keeps session.old session.new }
     {
-        match byte_of(bytes, KIND_AT) {
+        match self.taken_kind(bytes) {
             MAP => self.receive_map(peer, bytes),
             CARRIED => self.receive_parcels(peer, session, bytes, now),
             _ => self.receive_straight(peer, session, bytes, now),
@@ -299,6 +319,18 @@ impl Relay {
         if are_here(peer, parcel) {
             self.carrier.hand_on(&shut_of(peer), parcel);
         }
+    }
+}
+
+/// How many machines of a match carry for one another.
+fn carriers_in(settings: &MatchSettings) -> u8
+    ensures number { result ≡ carriers_in settings.now }
+    ensures few { result ≤ settings.now.machines }
+{
+    if settings.carries && settings.machines > 2 {
+        settings.machines
+    } else {
+        0
     }
 }
 

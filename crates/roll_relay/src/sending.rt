@@ -2,14 +2,14 @@
 ghost use Rattle.std.specs.Prelude.{◌≡◌, ◌≤◌, length, true, is_none, is_some, option_map, not, ◌||◌, IfErr, IfOk, IfSome, OnErr};
 ghost use Rattle.roll_contact.specs.Contacts.{is_playing};
 ghost use Rattle.roll_carry.specs.Carrying.{first_owed, first_waited_for};
-ghost use Rattle.roll_carry.specs.Reading.{parcels_in, tail_of, IsArea};
+ghost use Rattle.roll_carry.specs.Reading.{parcels_in, IsArea};
 ghost use Rattle.roll_carry.specs.Spelling.{given_by, said_by, Maps};
-ghost use Rattle.roll_carry.specs.declared.limits.TheConstants.{AREA_LIMIT};
+ghost use Rattle.roll_carry.specs.declared.limits.TheConstants.{AREA_LIMIT, TAIL_LEAST, TAIL_LIMIT};
 ghost use Rattle.roll_mesh.specs.declared.limits.TheConstants.{MACHINE_LIMIT};
 ghost use Rattle.roll_peer.specs.Peered.{contact_at};
 ghost use Rattle.roll_peer.specs.Receiving.{ticking, IsOther};
 ghost use Rattle.roll_peer.specs.Sending.{can_carry, is_lost, with_draws};
-ghost use Rattle.roll_relay.specs.Relaying.{at_once, is_at_once, leaving, sending, told_map, ready_of, IsNext, IsNextMap, IsNextParcels, SaysBye, Sends};
+ghost use Rattle.roll_relay.specs.Relaying.{at_once, carried_of, is_at_once, leaving, sending, told_map, ready_of, IsNext, IsNextMap, IsNextParcels, SaysBye, Sends};
 
 use crate::relay::{Relay, ready_of, shut_of};
 use arrayvec::ArrayVec;
@@ -55,7 +55,8 @@ impl Relay {
         machine: u8,
         bytes: ArrayVec<u8, DATAGRAM_LIMIT>,
     ) -> Option<ArrayVec<u8, DATAGRAM_LIMIT>>
-        ensures sent { self.new ≡ sending peer.now machine (tail_of bytes.items) self.old }
+        ensures sent { self.new
+            ≡ sending peer.now machine (carried_of self.old bytes.items) self.old }
         ensures at_once { option_map (λ sent. sent.items) result
             ≡ at_once peer.now machine bytes.items self.old }
     {
@@ -68,20 +69,35 @@ impl Relay {
 
     /// What is carried of a datagram is handed over, if it can be. Says whether the datagram goes out at once.
     fn hand_over(&mut self, peer: &Peer, machine: u8, bytes: &[u8]) -> bool
-        ensures sent { self.new ≡ sending peer.now machine (tail_of bytes.now) self.old }
-        ensures at_once { result ≡ is_at_once peer.now machine (tail_of bytes.now) self.old }
+        ensures sent { self.new ≡ sending peer.now machine (carried_of self.old bytes.now) self.old }
+        ensures at_once { result
+            ≡ is_at_once peer.now machine (carried_of self.old bytes.now) self.old }
     {
-        match tail_of(bytes) {
+        match self.carried_of(bytes) {
             Some(tail) => self.carrier.send(&shut_of(peer), machine, tail),
             None => true,
         }
     }
 
+    /// What is carried of a datagram, if it can be, and somebody carries.
+    #[tactic(auto, unfolding(crate::specs::Relaying::carried_of))]
+    fn carried_of<'a>(&self, bytes: &'a [u8]) -> Option<&'a [u8]>
+        ensures exact { option_map (λ tail. tail.now) result ≡ carried_of self.now bytes.now }
+        ensures least { IfSome result (λ tail. TAIL_LEAST ≤ length tail.now) }
+        ensures most { IfSome result (λ tail. length tail.now ≤ TAIL_LIMIT) }
+    {
+        if self.has_carriers() {
+            tail_of(bytes)
+        } else {
+            None
+        }
+    }
+
     /// A bye of this machine is carried, if the line between the two isn't whole.
     fn carry(&mut self, peer: &Peer, machine: u8, bytes: &[u8])
-        ensures { self.new ≡ leaving peer.now machine (tail_of bytes.now) self.old }
+        ensures { self.new ≡ leaving peer.now machine (carried_of self.old bytes.now) self.old }
     {
-        if let Some(tail) = tail_of(bytes) {
+        if let Some(tail) = self.carried_of(bytes) {
             self.carrier.carry(&shut_of(peer), machine, tail);
         }
     }
