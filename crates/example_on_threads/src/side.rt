@@ -6,6 +6,7 @@ ghost use Rattle.fazgrond.specs.Hosted.{places_of};
 use crate::machine::{Fault, LAST_FRAME, MOST, buttons, digest, moment, the_match};
 use crate::wire::Wire;
 use fazgrond::holding::{Held, HeldFault, RemoteWord};
+use fazgrond::relaying::Relay;
 use fazgrond::{Feed, Habits, Host, Peer, PeerEvent, Refusal, Session, Spectator, ends_in_roll};
 use game_fighter::{Fight, State};
 use std::alloc::Global;
@@ -32,6 +33,8 @@ const GUESSES: usize = 4;
 #[derive(Drop)]
 pub struct Side {
     peer: Peer,
+    /// Of two machines none carries for the other.
+    relay: Relay,
     wire: Wire,
     /// The other's words that the session isn't told yet.
     held: Held,
@@ -53,11 +56,13 @@ pub struct Side {
 impl Side {
     pub fn new(alloc: Global, host: &Host<Fight>, wire: Wire) -> Result<Side, Fault> {
         let peer = Peer::open(alloc, host.session(), the_match(ME))?;
+        let relay = Relay::open(alloc, &peer)?;
         let mut feed = Feed::new(alloc)?;
         let receiver = feed.add()?;
         match Spectator::new(Fight::new(), &Fight::opening(), receiver) {
             Ok(viewer) => Ok(Side {
                 peer,
+                relay,
                 wire,
                 held: Held::new(TURNS).unwrap(),
                 handed: 0,
@@ -122,7 +127,9 @@ impl Side {
             };
             let session = host.session_mut();
             // What is ignored changed nothing of the match.
-            let _ = self.held.receive(&mut self.peer, session, &bytes, now)?;
+            let _ = self
+                .held
+                .receive(&mut self.relay, &mut self.peer, session, &bytes, now)?;
         }
         Ok(())
     }
@@ -226,9 +233,13 @@ impl Side {
         let session = host.session();
         let digest = digest(session.settled_state());
         self.peer.note_state_at(session.settled(), digest);
-        let sent = self
-            .held
-            .send(&mut self.peer, host.session_mut(), OTHER, now)??;
+        let sent = self.held.send(
+            &mut self.relay,
+            &mut self.peer,
+            host.session_mut(),
+            OTHER,
+            now,
+        )??;
         if let Some(bytes) = sent {
             self.wire.send(&bytes)?;
         }

@@ -2,19 +2,14 @@
 use Rattle.std.proofs.Common.{◌≡◌, ◌∙◌, ◌⊎◌, ◌<◌, ◌≤◌, ℕ, inl, inr, List, ap, min, refl, subst, sym, take, zero, suc, arith, ◌∷◌, [], length}
 use Rattle.std.proofs.lemmas.Bool.{cases_lt}
 use Rattle.std.proofs.lemmas.List.{take_all}
-use Rattle.std.specs.Prelude.{IfErr, IfOk, OnErr, OnOk, Result, Ok, Err}
+use Rattle.std.specs.Prelude.{Result}
 use Rattle.roll_inputs.specs.declared.remote_word.RemoteWord.{RemoteWord}
-use Rattle.roll_member.specs.Beside.{IsOf}
-use Rattle.roll_peer.proofs.Running.{heard_bytes}
 use Rattle.roll_peer.specs.Peered.{Peered}
-use Rattle.roll_peer.specs.Receiving.{meeting, ticking, IsIgnored, Receives}
-use Rattle.roll_peer.specs.Requests.{HearsBytes}
+use Rattle.roll_peer.specs.Receiving.{ticking}
 use Rattle.roll_peer.specs.Turning.{IsPolled}
-use Rattle.roll_peer.specs.declared.received.Ignored.{Ignored}
-use Rattle.roll_peer.specs.declared.received.Received.{Received}
 use Rattle.roll_peer.specs.declared.refusal.PeerRefusal.{PeerRefusal}
-use Rattle.roll_session.specs.Seen.{Seen, Step}
-use Rattle.roll_held.specs.Heard.{beside, HearsHeld, PollsHeld}
+use Rattle.roll_session.specs.Seen.{Seen}
+use Rattle.roll_held.specs.Heard.{beside, PollsHeld}
 use Rattle.roll_held.specs.Told.{after_word, as_told, roomless, Fits}
 use Rattle.roll_held.proofs.Told.{as_told_same, first_takes, takes_first}
 
@@ -46,21 +41,3 @@ module _ (s later new : Seen) (words held : List RemoteWord) (room : ℕ) (same 
     room = room;
     polls = subst (λ (x : Seen). IsPolled x (as_told new held room) (ticking now peer) next said) before_is polled;
   }
-
-  pub hears_held : (step : Step) (peer next : Peered) (now : ℕ) (bytes : List ℕ) (said : Result Received Ignored)
-      → OnOk said (IsOf (as_told later words 0) peer.member)
-      → IfOk said (Receives step (as_told later words 0) (as_told new held room) (meeting (as_told later words 0) (ticking now peer)) next bytes)
-      → IfErr said (IsIgnored (as_told later words 0) (ticking now peer) next bytes)
-      → OnErr said (as_told new held room ≡ as_told later words 0)
-      → HearsHeld step (beside s words peer) (beside new held next) now bytes said
-  hears_held step peer next now bytes said own heard ignored unchanged = record {
-    room = room;
-    hears = subst (λ (x : Seen). HearsBytes step (record { session = x; peer = peer }) (record { session = as_told new held room; peer = next }) now bytes said) before_is
-        (heard_bytes step (as_told later words 0) (as_told new held room) peer next now bytes said own heard ignored unchanged);
-  }
-
--- what was refused left all as it was
-pub unheard_same : {X E Y : Type 0} (seen : X → Y) (result : Result E Ignored) (new old : X) → OnErr result (new ≡ old)
-    → OnErr result (seen new ≡ seen old)
-unheard_same seen (Ok it) new old same = tt
-unheard_same seen (Err why) new old same = ap seen same

@@ -7,7 +7,7 @@ use Rattle.roll_peer.specs.Peered.{Peered}
 use Rattle.roll_peer.specs.Receiving.{ticking, IsOther}
 use Rattle.roll_peer.specs.declared.received.Ignored.{Ignored}
 use Rattle.roll_peer.specs.declared.refusal.OtherSession.{OtherSession}
-use Rattle.roll_relay.specs.Relaying.{is_said, kind_of, Hears, IsUnheard, Sends}
+use Rattle.roll_relay.specs.Relaying.{is_said, taken_kind, Hears, IsUnheard, Sends}
 use Rattle.roll_relay.specs.declared.heard.Heard.{Heard}
 use Rattle.roll_session.specs.Seen.{Seen, Step}
 use Rattle.roll_held.proofs.Ahead.{before_is}
@@ -17,8 +17,8 @@ use Rattle.roll_held.specs.Told.{as_told, roomless}
 module _ (s later new : Seen) (words held : List RemoteWord) (room : ℕ) (same : roomless later ≡ roomless s) where
   pub hears_held_by : (step : Step) (peer next : Peered) (here there : Carrying) (now : ℕ) (bytes : List ℕ) (said : Result Heard Ignored)
       → IfOk said (Hears step now (relayed (as_told later words 0) peer here) (relayed (as_told new held room) next there) bytes)
-      → IfOk said (λ heard. is_said (kind_of bytes) heard ≡ true)
-      → IfErr said (IsUnheard step now (relayed (as_told later words 0) peer here).beside (relayed (as_told new held room) next there).beside bytes)
+      → IfOk said (λ heard. is_said (taken_kind here bytes) heard ≡ true)
+      → IfErr said (IsUnheard step now (taken_kind here bytes) (relayed (as_told later words 0) peer here).beside (relayed (as_told new held room) next there).beside bytes)
       → OnErr said (there ≡ here)
       → HearsHeldBy step now (relayed_beside s words peer here) (relayed_beside new held next there) bytes said
   hears_held_by step peer next here there now bytes said heard kind ignored unchanged = record {

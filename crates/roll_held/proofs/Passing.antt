@@ -75,12 +75,12 @@ keeps : (deed : Deed) (a b : Moment) → Does deed a b → (entry : Entry) → C
 keeps Turn a b it entry there = hands_log (due_then a.held) (waited_then a.held) a b it entry there
 keeps (Hand count) a b it entry there =
     hands_log (min count (length a.held.words.items)) a.held.waited.items a b it entry there
-keeps Other a b it entry there = it.0.log entry there
+keeps Other a b it entry there = it.log entry there
 
 same_turns : (deed : Deed) (a b : Moment) → Does deed a b → b.held.turns ≡ a.held.turns
 same_turns Turn a b it = it.turns_are
 same_turns (Hand count) a b it = it.turns_are
-same_turns Other a b it = it.1
+same_turns Other a b it = it.turns_are
 
 module _ (first : List RemoteWord) where
   abbrev AllTold : Moment → Type 0
@@ -131,10 +131,10 @@ module _ (first : List RemoteWord) where
   -- ---- anything else
 
   others : (turns : ℕ) (a b : Moment) → Does Other a b → Left turns a → Left turns b
-  others turns a b it l = go it.0.which
+  others turns a b it l = go it.which
     where
       stays : (w : RemoteWord) → WasTold a.seen w → WasTold b.seen w
-      stays w told = it.0.log (Remote w.player w.frame w.word) told
+      stays w told = it.log (Remote w.player w.frame w.word) told
 
       go : StillWait a.held b.held ⊎ AreTold b.seen a.held b.held → Left turns b
       go (inl still) = record {

@@ -46,9 +46,12 @@ words_told s (v ∷ words) w there = go (words_told (after_word s v) words w) (C
 
 -- ---- how words wait once a session was told something
 
-pub told_waits : (s after : Seen) (old new : Held) → after ≡ told s old.words.items → new.waited.items ≡ [] → Waits s after old new
-told_waits s after old new is none =
+pub told_waits : (s after : Seen) (old new : Held) → after ≡ told s old.words.items → new.turns ≡ old.turns → new.words.items ≡ []
+    → new.waited.items ≡ [] → Waits s after old new
+told_waits s after old new is turns empty none =
     record {
+      turns_are = turns;
+      none = λ for_none was. empty;
       log = λ entry there. subst (λ (x : Seen). Contains x.log entry) (sym is) (log_stays s old.words.items entry there);
       which = inr (record {
         all_told = λ w there. subst (λ (x : Seen). WasTold x w) (sym is) (words_told s old.words.items w there);

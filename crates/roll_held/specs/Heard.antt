@@ -3,22 +3,15 @@ use Rattle.std.specs.Prelude.{ℕ, List, Result}
 use Rattle.roll_inputs.specs.declared.remote_word.RemoteWord.{RemoteWord}
 use Rattle.roll_peer.specs.Peered.{Peered}
 use Rattle.roll_peer.specs.Receiving.{ticking}
-use Rattle.roll_peer.specs.Requests.{Beside, HearsBytes}
+use Rattle.roll_peer.specs.Requests.{Beside}
 use Rattle.roll_peer.specs.Turning.{IsPolled}
-use Rattle.roll_peer.specs.declared.received.Ignored.{Ignored}
-use Rattle.roll_peer.specs.declared.received.Received.{Received}
 use Rattle.roll_peer.specs.declared.refusal.PeerRefusal.{PeerRefusal}
-use Rattle.roll_session.specs.Seen.{Seen, Step}
+use Rattle.roll_session.specs.Seen.{Seen}
 use Rattle.roll_held.specs.Told.{as_told}
 
 -- so is what the network has beside it
 abbrev pub beside : Seen → List RemoteWord → Peered → Beside
 beside s words peer = record { session = as_told s words 0; peer = peer }
-
--- bytes are heard, or ignored
-pub record HearsHeld (step : Step) (old new : Beside) (now : ℕ) (bytes : List ℕ) (said : Result Received Ignored) : Type 0 where
-  pub room : ℕ
-  pub hears : HearsBytes step old (record new { session = record new.session { reserved = room } }) now bytes said
 
 -- a poll
 pub record PollsHeld (old new : Beside) (now : ℕ) (said : Result Unit PeerRefusal) : Type 0 where

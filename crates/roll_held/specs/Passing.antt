@@ -44,7 +44,7 @@ is_turn Other = false
 abbrev pub Does : Deed → (old new : Moment) → Type 0
 Does Turn old new = HandsOver (due_then old.held) (waited_then old.held) old new
 Does (Hand count) old new = HandsOver (min count (length old.held.words.items)) old.held.waited.items old new
-Does Other old new = Waits old.seen new.seen old.held new.held × (new.held.turns ≡ old.held.turns)
+Does Other old new = Waits old.seen new.seen old.held new.held
 
 -- one after another
 abbrev pub AreDone : List Deed → (old new : Moment) → Type 0

@@ -6,7 +6,7 @@ use Rattle.roll_peer.specs.Peered.{Peered}
 use Rattle.roll_peer.specs.Receiving.{ticking, IsOther}
 use Rattle.roll_peer.specs.declared.received.Ignored.{Ignored}
 use Rattle.roll_peer.specs.declared.refusal.OtherSession.{OtherSession}
-use Rattle.roll_relay.specs.Relaying.{is_said, kind_of, Hears, IsUnheard, Relayed, Sends}
+use Rattle.roll_relay.specs.Relaying.{is_said, taken_kind, Hears, IsUnheard, Relayed, Sends}
 use Rattle.roll_relay.specs.declared.heard.Heard.{Heard}
 use Rattle.roll_session.specs.Seen.{Seen, Step}
 use Rattle.roll_held.specs.Heard.{beside}
@@ -27,8 +27,8 @@ with_room room it =
 -- bytes are heard that came straight, or of who carries; or they aren't, and nothing is changed of what is carried
 pub record HearsBy (step : Step) (now : ℕ) (old new : Relayed) (bytes : List ℕ) (said : Result Heard Ignored) : Type 0 where
   pub heard : IfOk said (Hears step now old new bytes)
-  pub kind : IfOk said (λ heard. is_said (kind_of bytes) heard ≡ true)
-  pub ignored : IfErr said (IsUnheard step now old.beside new.beside bytes)
+  pub kind : IfOk said (λ heard. is_said (taken_kind old.carrying bytes) heard ≡ true)
+  pub ignored : IfErr said (IsUnheard step now (taken_kind old.carrying bytes) old.beside new.beside bytes)
   pub unchanged : OnErr said (new.carrying ≡ old.carrying)
 
 -- the same where words are held back

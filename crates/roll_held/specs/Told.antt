@@ -1,5 +1,5 @@
 -- Words that are held back from a session, and the session as if it had heard them.
-use Rattle.std.specs.Prelude.{◌≡◌, ℕ, ◌+◌, List, [], ◌∷◌, length, map, take, not, Bool, true, false, ◌==◌, ◌&&◌, is_none, nat_lt, None, if◌then◌else◌, slice_get}
+use Rattle.std.specs.Prelude.{◌≡◌, ◌≢◌, ℕ, ◌+◌, List, [], ◌∷◌, length, map, take, not, Bool, true, false, ◌==◌, ◌&&◌, is_none, nat_lt, None, if◌then◌else◌, slice_get}
 use Rattle.std.specs.List.{list_all, range_with_len}
 use Rattle.std.specs.Option.{option_map_or}
 use Rattle.roll_frame.specs.Core.{settled}
@@ -68,11 +68,11 @@ are_next s words = list_all (is_next_at s words) (range_with_len 0 (length words
 abbrev pub roomless : Seen → Seen
 roomless s = record s { reserved = 0 }
 
--- why a session can't be told words: they aren't its next ones, or there is no room for them
+-- why a session can't be told words, of which there are some: they aren't its next ones, or there is no room for them
 abbrev pub IsHeldFault : Seen → List RemoteWord → HeldFault → Type 0
 IsHeldFault s words OtherSession = are_next s words ≡ false
 IsHeldFault s words (Session why) =
-    (are_next s words ≡ true) × IsWhy (reserve_refusal s (length words)) why
+    (words ≢ []) × (are_next s words ≡ true) × IsWhy (reserve_refusal s (length words)) why
 
 -- a session as if it had heard the words that are held back from it, where there is room for so many events more
 abbrev pub as_told : Seen → List RemoteWord → ℕ → Seen

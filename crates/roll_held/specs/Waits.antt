@@ -24,22 +24,35 @@ pub record AreTold (s : Seen) (old new : Held) : Type 0 where
   pub all_told : (w : RemoteWord) → Contains old.words.items w → WasTold s w
   pub none_waited : new.waited.items ≡ []
 
--- what a session was told stays in its log; and either no word that waits was handed over to it, or all were
+-- what a session was told stays in its log; either no word that waits was handed over to it, or all were; and for how many turns words
+-- may wait stays as it is: if for none, none comes to wait
 pub record Waits (before after : Seen) (old new : Held) : Type 0 where
+  pub turns_are : new.turns ≡ old.turns
+  pub none : old.turns ≡ 0 → old.words.items ≡ [] → new.words.items ≡ []
   pub log : (entry : Entry) → Contains before.log entry → Contains after.log entry
   pub which : StillWait old new ⊎ AreTold after old new
 
 -- words that wait go on to, as long as nothing goes out of the log; and so they do over several steps
 pub wait_on : (before after : Seen) (held : Held) → ((entry : Entry) → Contains before.log entry → Contains after.log entry) → Waits before after held held
 wait_on before after held log =
-    record { log = log; which = inl (record { later = []; words_are = sym (append-nil held.words.items); waited_is = refl }) }
+    record {
+      turns_are = refl;
+      none = λ turns none. none;
+      log = log;
+      which = inl (record { later = []; words_are = sym (append-nil held.words.items); waited_is = refl });
+    }
 
 pub wait_itself : (s : Seen) (held : Held) → Waits s s held held
 wait_itself s held = wait_on s s held (λ entry there. there)
 
 pub wait_more : (a b c : Seen) (x y z : Held) → Waits a b x y → Waits b c y z → Waits a c x z
 wait_more a b c x y z one two =
-    record { log = λ entry there. two.log entry (one.log entry there); which = go one.which two.which }
+    record {
+      turns_are = two.turns_are ∙ one.turns_are;
+      none = λ turns none. two.none (one.turns_are ∙ turns) (one.none turns none);
+      log = λ entry there. two.log entry (one.log entry there);
+      which = go one.which two.which;
+    }
   where
     go : StillWait x y ⊎ AreTold b x y → StillWait y z ⊎ AreTold c y z → StillWait x z ⊎ AreTold c x z
     go (inl p) (inl q) = inl (record {

@@ -1,6 +1,5 @@
 //! Words that are held back, and for how many turns.
-ghost use Rattle.std.specs.Prelude.{◌≡◌, ◌⊎◌, ◌≤◌, [], drop, is_none, length, min, not, take, true, IfErr, IfOk, IfSome, IsFalse, IsTrue, OnErr, OnOk};
-ghost use Rattle.std.specs.Int.{is_in_range};
+ghost use Rattle.std.specs.Prelude.{◌≡◌, ◌⊎◌, ◌≤◌, [], drop, is_none, length, min, nat_lt, take, true, IfErr, IfOk, IfSome, IsFalse, IsTrue, OnErr, OnOk};
 ghost use Rattle.roll_held.specs.Passing.{Does, Hand, Turn};
 ghost use Rattle.roll_held.specs.Pressed.{is_pressed, RefusesNext, TakesNext};
 ghost use Rattle.roll_held.specs.Told.{are_next, roomless, told, IsHeldFault};
@@ -34,13 +33,13 @@ pub struct Held {
 }
 
 impl Held {
-    /// Nothing waits, and what will come does for so many turns at most. None if these are none, or more than 8.
+    /// Nothing waits, and what will come does for so many turns at most: for 0, no word ever waits. None if they are more than 8.
     pub fn new(turns: u8) -> Option<Held>
         ensures none { IfSome result (λ held. (held.words.items ≡ []) × (held.waited.items ≡ [])) }
         ensures turns { IfSome result (λ held. held.turns ≡ turns) }
-        ensures refused { is_none result ≡ not (is_in_range 1 8 turns) }
+        ensures refused { is_none result ≡ nat_lt TURN_LIMIT turns }
     {
-        if turns == 0 || usize::from(turns) > TURN_LIMIT {
+        if usize::from(turns) > TURN_LIMIT {
             return None;
         }
         Some(Held {
@@ -48,6 +47,13 @@ impl Held {
             waited: ArrayVec::new(),
             turns: usize::from(turns),
         })
+    }
+
+    /// For how many turns a word waits at most.
+    pub fn turns(&self) -> usize
+        ensures { result ≡ self.now.turns }
+    {
+        self.turns
     }
 
     /// The words that wait, in the order in which they came.

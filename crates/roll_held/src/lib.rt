@@ -9,7 +9,6 @@ mod front;
 mod held;
 mod laws;
 mod network;
-mod relayed;
 mod session;
 mod words;
 

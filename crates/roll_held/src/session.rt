@@ -1,9 +1,9 @@
 //! A session and the words that are held back from it, as the network of a match sees them.
-ghost use Rattle.std.specs.Prelude.{◌≡◌, ◌+◌, ◌-◌, ◌≤◌, ◌<◌, [], ◌∷◌, ◌++◌, length, IfErr, IfOk, IsSome, None, OnErr, OnOk};
+ghost use Rattle.std.specs.Prelude.{◌≡◌, ◌≢◌, ◌+◌, ◌-◌, ◌≤◌, ◌<◌, [], ◌∷◌, ◌++◌, length, true, IfErr, IfOk, IsSome, IsTrue, None, OnErr, OnOk};
 ghost use Rattle.roll_frame.specs.Inputs.{disconnect_tests};
 ghost use Rattle.roll_frame.specs.Refusals.{first_refusal};
 ghost use Rattle.roll_frame.specs.declared.event.Event.TheVariants.{DisconnectedFromPeer};
-ghost use Rattle.roll_held.specs.Told.{as_told, roomless, told, Fits, Takes};
+ghost use Rattle.roll_held.specs.Told.{as_told, is_next, roomless, told, Fits, Takes};
 ghost use Rattle.roll_held.specs.Waits.{Waits};
 ghost use Rattle.roll_held.specs.declared.held.TheConstants.{HELD_LIMIT as MOST_HELD};
 ghost use Rattle.roll_session.specs.Changes.{after_disconnect, disconnect_refusal, reserve_refusal, FitsLog, IsRefused, IsWhy};
@@ -34,7 +34,6 @@ impl<'a, S: Settling> HeldSession<'a, S> {
             ≡ told (S.seen self.old.session.now) self.old.held.now.words.items }
         ensures reserved { self.new.reserved ≡ self.old.reserved }
         ensures same_session { self.new.session.ghost_name ≡ self.old.session.ghost_name }
-        ensures turns { self.new.held.now.turns ≡ self.old.held.now.turns }
         ensures waits { Waits (S.seen self.old.session.now) (S.seen self.new.session.now)
             self.old.held.now self.new.held.now }
         ensures same_held { self.new.held.ghost_name ≡ self.old.held.ghost_name }
@@ -59,7 +58,6 @@ impl<'a, S: Settling> HeldSession<'a, S> {
         ensures words { self.new.held.now.words.items ≡ self.old.held.now.words.items }
         ensures reserved { self.new.reserved ≡ self.old.reserved }
         ensures same_session { self.new.session.ghost_name ≡ self.old.session.ghost_name }
-        ensures turns { self.new.held.now.turns ≡ self.old.held.now.turns }
         ensures waits { Waits (S.seen self.old.session.now) (S.seen self.new.session.now)
             self.old.held.now self.new.held.now }
         ensures same_held { self.new.held.ghost_name ≡ self.old.held.ghost_name }
@@ -82,7 +80,6 @@ impl<'a, S: Settling> HeldSession<'a, S> {
             ≡ told (S.seen self.old.session.now) self.old.held.now.words.items }
         ensures reserved { self.new.reserved ≡ self.old.reserved }
         ensures same_session { self.new.session.ghost_name ≡ self.old.session.ghost_name }
-        ensures turns { self.new.held.now.turns ≡ self.old.held.now.turns }
         ensures waits { Waits (S.seen self.old.session.now) (S.seen self.new.session.now)
             self.old.held.now self.new.held.now }
         ensures same_held { self.new.held.ghost_name ≡ self.old.held.ghost_name }
@@ -100,17 +97,26 @@ impl<'a, S: Settling> HeldSession<'a, S> {
             (told (S.seen self.old.session.now) self.old.held.now.words.items) word }
         requires some { 1 ≤
             (told (S.seen self.old.session.now) self.old.held.now.words.items).reserved }
+        requires holds { self.old.held.now.turns ≢ 0 }
         ensures words { self.new.held.now.words.items ≡ self.old.held.now.words.items ++ word ∷ [] }
         ensures reserved { self.new.reserved ≡ self.old.reserved - 1 }
         ensures session { self.new.session.now ≡ self.old.session.now }
         ensures same_session { self.new.session.ghost_name ≡ self.old.session.ghost_name }
-        ensures turns { self.new.held.now.turns ≡ self.old.held.now.turns }
         ensures waits { Waits (S.seen self.old.session.now) (S.seen self.new.session.now)
             self.old.held.now self.new.held.now }
         ensures same_held { self.new.held.ghost_name ≡ self.old.held.ghost_name }
     {
         self.reserved = self.reserved.saturating_sub(1);
         self.held.words.push(word);
+    }
+
+    /// Whether a word is held back: words are, and it is the next one of a player.
+    fn holds(&self, word: &RemoteWord) -> bool
+        ensures next { IsTrue result → is_next (S.seen self.now.session.now)
+            self.now.held.now.words.items word.now ≡ true }
+        ensures some { IsTrue result → self.now.held.now.turns ≢ 0 }
+    {
+        self.held.turns != 0 && is_next(self.session, self.held.words.as_slice(), word)
     }
 
     /// Why a player can't leave: there is no such remote player, or it has left already.
@@ -152,7 +158,6 @@ impl<'a, S: Settling> HeldSession<'a, S> {
             → self.new ≡ self.old }
         ensures same_session { self.new.session.ghost_name ≡ self.old.session.ghost_name }
         ensures same_held { self.new.held.ghost_name ≡ self.old.held.ghost_name }
-        ensures turns { self.new.held.now.turns ≡ self.old.held.now.turns }
         ensures waits { Waits (S.seen self.old.session.now) (S.seen self.new.session.now)
             self.old.held.now self.new.held.now }
         ensures keeps { S.keeps self.old.session.now self.new.session.now }
@@ -185,23 +190,19 @@ impl<'a, S: Settling> Networked for HeldSession<'a, S> {
 
     ghost keeps = { λ old new. (new.session.ghost_name ≡ old.session.ghost_name)
         × ((new.held.ghost_name ≡ old.held.ghost_name)
-        × ((new.held.now.turns ≡ old.held.now.turns)
         × (Waits (S.seen old.session.now) (S.seen new.session.now) old.held.now new.held.now
-        × S.keeps old.session.now new.session.now))) };
+        × S.keeps old.session.now new.session.now)) };
 
-    ghost keeps_itself = { λ it. (refl, (refl, (refl, (wait_itself (S.seen it.session.now) it.held.now, S.keeps_itself it.session.now)))) };
+    ghost keeps_itself = { λ it. (refl, (refl, (wait_itself (S.seen it.session.now) it.held.now, S.keeps_itself it.session.now))) };
 
     ghost keeps_on = { λ a b c one two. (
       two.0 ∙ one.0,
       (
         two.1.0 ∙ one.1.0,
         (
-          two.1.1.0 ∙ one.1.1.0,
-          (
-            wait_more (S.seen a.session.now) (S.seen b.session.now) (S.seen c.session.now) a.held.now b.held.now c.held.now
-                one.1.1.1.0 two.1.1.1.0,
-            S.keeps_on a.session.now b.session.now c.session.now one.1.1.1.1 two.1.1.1.1,
-          ),
+          wait_more (S.seen a.session.now) (S.seen b.session.now) (S.seen c.session.now) a.held.now b.held.now c.held.now
+              one.1.1.0 two.1.1.0,
+          S.keeps_on a.session.now b.session.now c.session.now one.1.1.1 two.1.1.1,
         ),
       ),
     ) };
@@ -267,7 +268,7 @@ impl<'a, S: Settling> Networked for HeldSession<'a, S> {
             frame,
             word,
         };
-        if is_next(self.session, self.held.words.as_slice(), &word) {
+        if self.holds(&word) {
             self.session.laws();
             return match self.make_room() {
                 Ok(()) => {

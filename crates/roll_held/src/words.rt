@@ -1,5 +1,5 @@
 //! Words that wait for a session: whether they are its next ones, and how it is told them.
-ghost use Rattle.std.specs.Prelude.{◌≡◌, ℕ, ◌+◌, ◌≤◌, true, IfErr, OnErr, OnOk, length, slice_get};
+ghost use Rattle.std.specs.Prelude.{◌≡◌, ℕ, ◌+◌, ◌≤◌, [], true, IfErr, OnErr, OnOk, length, slice_get};
 ghost use Rattle.roll_session.specs.Changes.{reserve_refusal, FitsLog, IsWhy};
 ghost use Rattle.roll_held.specs.Told.{are_next, is_next, roomless, told, words_among, Fits, IsHeldFault};
 
@@ -57,12 +57,16 @@ pub(crate) fn make_room<S: Settling>(session: &mut S, words: &Waiting) -> Result
     ensures accepted { OnOk result (are_next (S.seen session.old) words.now.items ≡ true) }
     ensures refused { IfErr result (IsHeldFault (S.seen session.old) words.now.items) }
     ensures unchanged { OnErr result (session.new ≡ session.old) }
+    ensures untouched { words.now.items ≡ [] → session.new ≡ session.old }
     ensures keeps { S.keeps session.old session.new }
 {
     if !are_next(session, words.as_slice()) {
         return Err(HeldFault::OtherSession);
     }
     session.laws();
+    if words.is_empty() {
+        return Ok(());
+    }
     match session.reserve_log(words.len() as u32) {
         Ok(()) => Ok(()),
         Err(why) => Err(HeldFault::Session(why)),

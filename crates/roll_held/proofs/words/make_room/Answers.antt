@@ -1,5 +1,7 @@
 use Rattle.std.proofs.Common.{◌≡◌, ◌∙◌, List, arith, max, sym, subst, true}
+use Rattle.std.proofs.lemmas.Grind.{common_steps}
 use Rattle.roll_inputs.specs.declared.remote_word.RemoteWord.{RemoteWord}
+use Rattle.roll_session.proofs.Following.{small_of}
 use Rattle.roll_session.specs.Seen.{Seen}
 use Rattle.roll_held.specs.Told.{are_next, Fits}
 use Rattle.roll_held.proofs.Told.{all_fit, fits_room}
@@ -15,3 +17,8 @@ returns-in-Ok-clause-fits g c =
     subst (λ (new : Seen). Fits new words) (sym c.in-Ok.ensures.reserved)
     (fits_room s words (max s.reserved c.len.result)
     (all_fit g.S.Networked.step s words c.laws.ensures (omega (arith, c.in-Ok.ensures.fits, c.len.ensures.value)) all))
+
+pub returns-then-is_empty-clause-log : goal.returns-then-is_empty-clause-log
+returns-then-is_empty-clause-log g c =
+    let small = small_of g.S.Networked.step (g.S.Networked.seen c.args.session.now) c.laws.ensures in
+    grind (arith, small.logged, small.fits, c.is_empty.ensures, c.if-is_empty.true, common_steps)

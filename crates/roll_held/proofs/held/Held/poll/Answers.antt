@@ -22,7 +22,7 @@ returns-in-Ok-clause-waits g c =
     let new = c.poll.new.session in
     let waits : Waits (seen c.args.session.now) (seen new.session.now) c.args.self.now new.held.now =
     waits_past (seen c.args.session.now) (seen c.make_room.new.session) (seen new.session.now) c.args.self.now new.held.now
-    c.in-Ok.ensures.same c.poll.ensures.keeps.1.1.1.0 in
+    c.in-Ok.ensures.same c.poll.ensures.keeps.1.1.0 in
     search (waits, rules)
 
 pub returns-in-Err-clause-waits : goal.returns-in-Err-clause-waits

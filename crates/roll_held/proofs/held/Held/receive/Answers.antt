@@ -1,7 +1,6 @@
 use Rattle.std.proofs.Common.{rules}
-use Rattle.roll_held.specs.Heard.{beside, HearsHeld}
-use Rattle.roll_held.specs.Told.{as_told}
-use Rattle.roll_held.proofs.Ahead.{hears_held, unheard_same}
+use Rattle.roll_held.specs.Relayed.{relayed_beside, HearsHeldBy}
+use Rattle.roll_held.proofs.Carried.{hears_held_by}
 use Rattle.roll_held.specs.Waits.{Waits}
 use Rattle.roll_held.proofs.Waiting.{waits_past, waits_same}
 use Rattle.roll_held.proofs.held.Held.receive.Goals as goal
@@ -10,13 +9,14 @@ pub returns-in-Ok-clause-heard : goal.returns-in-Ok-clause-heard
 returns-in-Ok-clause-heard g c =
     let seen = g.S.Networked.seen in
     let new = c.receive.new.session in
-    let hears : HearsHeld g.S.Networked.step (beside (seen c.args.session.now) c.args.self.now.words.items c.args.peer.now)
-    (beside (seen new.session.now) new.held.now.words.items c.receive.new.self) c.args.now c.args.bytes.now c.receive.result =
-    hears_held (seen c.args.session.now) (seen c.make_room.new.session) (seen new.session.now) c.args.self.now.words.items
-    new.held.now.words.items new.reserved c.in-Ok.ensures.same g.S.Networked.step c.args.peer.now
-    c.receive.new.self c.args.now c.args.bytes.now c.receive.result c.receive.ensures.accepted c.receive.ensures.received
-    c.receive.ensures.refused
-    (unheard_same (λ h. as_told (seen h.session.now) h.held.now.words.items h.reserved) c.receive.result new _ c.receive.ensures.session) in
+    let hears : HearsHeldBy g.S.Networked.step c.args.now
+    (relayed_beside (seen c.args.session.now) c.args.self.now.words.items c.args.peer.now c.args.relay.now)
+    (relayed_beside (seen new.session.now) new.held.now.words.items c.receive.new.peer c.receive.new.self) c.args.bytes.now
+    c.receive.result =
+    hears_held_by (seen c.args.session.now) (seen c.make_room.new.session) (seen new.session.now) c.args.self.now.words.items
+    new.held.now.words.items new.reserved c.in-Ok.ensures.same g.S.Networked.step c.args.peer.now c.receive.new.peer
+    c.args.relay.now c.receive.new.self c.args.now c.args.bytes.now c.receive.result c.receive.ensures.heard
+    c.receive.ensures.said c.receive.ensures.ignored c.receive.ensures.unchanged in
     search (hears, rules)
 
 pub returns-in-Ok-clause-waits : goal.returns-in-Ok-clause-waits
@@ -25,7 +25,7 @@ returns-in-Ok-clause-waits g c =
     let new = c.receive.new.session in
     let waits : Waits (seen c.args.session.now) (seen new.session.now) c.args.self.now new.held.now =
     waits_past (seen c.args.session.now) (seen c.make_room.new.session) (seen new.session.now) c.args.self.now new.held.now
-    c.in-Ok.ensures.same c.receive.ensures.keeps.1.1.1.0 in
+    c.in-Ok.ensures.same c.receive.ensures.keeps.1.1.0 in
     search (waits, rules)
 
 pub returns-in-Err-clause-waits : goal.returns-in-Err-clause-waits

@@ -33,4 +33,5 @@ returns-clause-waits g c =
     let s = g.S.Networked.seen old.session.now in
     let words = old.held.now.words.items in
     let all : c.as_slice.result.now ≡ words = c.as_slice.ensures.value ∙ ap (λ v. v.items) c.replace-words.ensures.value in
-    told_waits s (g.S.Networked.seen c.tell.new.session) old.held.now _ (c.tell.ensures.told ∙ ap (told s) all) c.new-self.ensures
+    told_waits s (g.S.Networked.seen c.tell.new.session) old.held.now _ (c.tell.ensures.told ∙ ap (told s) all) refl
+    (ap (λ v. v.items) c.replace-words.ensures.after ∙ c.new.ensures) c.new-self.ensures

@@ -1,4 +1,4 @@
-use Rattle.std.proofs.Common.{◌≡◌, ◌∙◌, ◌+◌, ◌-◌, ◌∷◌, ◌++◌, [], List, ap, arith, length, subst, sym, true}
+use Rattle.std.proofs.Common.{◌≡◌, ◌∙◌, ◌+◌, ◌-◌, ◌∷◌, ◌++◌, [], List, ap, arith, length, refl, subst, sym, true}
 use Rattle.std.specs.Prelude.{unwrap_or}
 use Rattle.roll_frame.specs.declared.refusal.Refusal.TheVariants.{NoMemory}
 use Rattle.roll_inputs.specs.declared.remote_word.RemoteWord.{RemoteWord}
@@ -19,7 +19,7 @@ hold-requires-clause-takes g c =
     let w : RemoteWord = record { player = c.args.player; frame = c.args.frame; word = c.args.word } in
     let i = c.in-Ok.ensures in
     let next : is_next s words w ≡ true =
-    subst (λ (ws : List RemoteWord). is_next s ws w ≡ true) c.as_slice.ensures.value (sym c.if-is_next.ensures) in
+    c.if-holds.ensures.next refl in
     let room : FitsLog s (length words + 1) = omega (
       arith,
       i.log,
@@ -42,7 +42,7 @@ returns-in-Ok-clause-heard g c =
     let w : RemoteWord = record { player = c.args.player; frame = c.args.frame; word = c.args.word } in
     let i = c.in-Ok.ensures in
     let next : is_next s words w ≡ true =
-    subst (λ (ws : List RemoteWord). is_next s ws w ≡ true) c.as_slice.ensures.value (sym c.if-is_next.ensures) in
+    c.if-holds.ensures.next refl in
     let room : FitsLog s (length words + 1) = omega (
       arith,
       i.log,
@@ -67,7 +67,7 @@ returns-in-Err-clause-fresh g c =
     let words = old.held.now.words.items in
     let w : RemoteWord = record { player = c.args.player; frame = c.args.frame; word = c.args.word } in
     let next : is_next s words w ≡ true =
-    subst (λ (ws : List RemoteWord). is_next s ws w ≡ true) c.as_slice.ensures.value (sym c.if-is_next.ensures) in
+    c.if-holds.ensures.next refl in
     (next_refusal g.S.Networked.step s words w c.laws.ensures old.fits next).0
 
 pub returns-in-Err-clause-refused : goal.returns-in-Err-clause-refused
@@ -79,7 +79,7 @@ returns-in-Err-clause-refused g c =
     let w : RemoteWord = record { player = c.args.player; frame = c.args.frame; word = c.args.word } in
     let i = c.in-Err.ensures in
     let next : is_next s words w ≡ true =
-    subst (λ (ws : List RemoteWord). is_next s ws w ≡ true) c.as_slice.ensures.value (sym c.if-is_next.ensures) in
+    c.if-holds.ensures.next refl in
     let why = (next_refusal g.S.Networked.step s words w c.laws.ensures old.fits next).1 ∙ full_same s words in
     record {
       said = i.refused ∙ ap (λ o. unwrap_or o NoMemory) (sym why);
@@ -105,12 +105,9 @@ returns-in-Ok-clause-keeps g c =
       (
         h.same_held ∙ p.same_held ∙ i.same_held,
         (
-          h.turns ∙ p.turns ∙ i.turns,
-          (
-            wait_more (seen old.session.now) (seen place.session.now) (seen new.session.now) old.held.now place.held.now new.held.now
-                waits h.waits,
-            subst (λ s. g.S.Networked.keeps old.session.now s) (sym h.session) keeps,
-          ),
+          wait_more (seen old.session.now) (seen place.session.now) (seen new.session.now) old.held.now place.held.now new.held.now
+              waits h.waits,
+          subst (λ s. g.S.Networked.keeps old.session.now s) (sym h.session) keeps,
         ),
       ),
     )
@@ -128,12 +125,9 @@ returns-in-Ok-Taken-clause-keeps g c =
       (
         told.same_held,
         (
-          told.turns,
-          (
-            wait_more (seen old.session.now) (seen mid.session.now) (seen c.remote_input.new.self) old.held.now mid.held.now mid.held.now
-                told.waits waits,
-            g.S.Networked.keeps_on old.session.now mid.session.now c.remote_input.new.self told.keeps said.keeps,
-          ),
+          wait_more (seen old.session.now) (seen mid.session.now) (seen c.remote_input.new.self) old.held.now mid.held.now mid.held.now
+              told.waits waits,
+          g.S.Networked.keeps_on old.session.now mid.session.now c.remote_input.new.self told.keeps said.keeps,
         ),
       ),
     )
@@ -151,12 +145,9 @@ returns-in_default-clause-keeps g c =
       (
         told.same_held,
         (
-          told.turns,
-          (
-            wait_more (seen old.session.now) (seen mid.session.now) (seen c.remote_input.new.self) old.held.now mid.held.now mid.held.now
-                told.waits waits,
-            g.S.Networked.keeps_on old.session.now mid.session.now c.remote_input.new.self told.keeps said.keeps,
-          ),
+          wait_more (seen old.session.now) (seen mid.session.now) (seen c.remote_input.new.self) old.held.now mid.held.now mid.held.now
+              told.waits waits,
+          g.S.Networked.keeps_on old.session.now mid.session.now c.remote_input.new.self told.keeps said.keeps,
         ),
       ),
     )
