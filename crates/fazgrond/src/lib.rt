@@ -113,7 +113,6 @@ pub use roll_pool::start_all;
 pub use roll_relay as relaying;
 pub use roll_seam::Epochs;
 pub use roll_seam::Past;
-pub use roll_seam::relay_for;
 pub use roll_session::Call;
 pub use roll_session::Grafted;
 pub use roll_session::Heard;

@@ -1,5 +1,5 @@
 -- A match has gone on in its next epoch, or it hasn't.
-use Rattle.std.proofs.Common.{◌≡◌, Bool, Option, Some, inr, subst}
+use Rattle.std.proofs.Common.{◌≡◌, Bool, Some, inr, subst}
 use Rattle.roll_carry.specs.Carrying.{Carrying}
 use Rattle.roll_chain.specs.Judging.{IsOver}
 use Rattle.roll_chain.specs.Seams.{opening_after}
@@ -15,7 +15,7 @@ use Rattle.roll_session.specs.Seen.{Seen, Step}
 use Rattle.roll_onward.specs.GoingOn.{GoesOnward, HasGoneOn, IsWhyNotFollowed, IsWhyNotGone}
 use Rattle.roll_onward.specs.declared.refusal.OnwardRefusal.{OnwardRefusal}
 
-pub gone_on : (step : Step) (old new : Epochs Seen) (peer next : Peered) (relay carrying : Option Carrying) (session started after : Seen)
+pub gone_on : (step : Step) (old new : Epochs Seen) (peer next : Peered) (relay carrying : Carrying) (session started after : Seen)
     (past : Past Seen) (o : Opening) (e : Ending) (all : Bool) → IsOver session old.chain peer e → o ≡ opening_after session old.chain peer e
     → new.past ≡ Some past → GoesOnward step o old.chain new.chain peer next relay carrying session started past
     → ArePlayed (MakesHere step) (DeclinesHere step) started (given_again new.chain.terms next.settings.me past.session o.end) after all

@@ -1,5 +1,5 @@
 -- A session that has its game, and the network beside it, go on in the next epoch.
-use Rattle.std.specs.Prelude.{◌≡◌, ◌⊎◌, Bool, Option, Some}
+use Rattle.std.specs.Prelude.{◌≡◌, ◌⊎◌, Bool, Some}
 use Rattle.roll_carry.specs.Carrying.{Carrying}
 use Rattle.roll_chain.specs.Chains.{settings_in}
 use Rattle.roll_chain.specs.Judging.{IsOver}
@@ -12,9 +12,9 @@ use Rattle.roll_peer.specs.Following.{IsFollowedAs}
 use Rattle.roll_peer.specs.Known.{IsKnownTo}
 use Rattle.roll_peer.specs.Peered.{IsWhyNot, Peered}
 use Rattle.roll_peer.specs.declared.refusal.OpenRefusal.TheVariants.{NoMemory as NoneLeft}
+use Rattle.roll_relay.specs.Relaying.{opened_beside}
 use Rattle.roll_seam.specs.Again.{given_again, ArePlayed}
 use Rattle.roll_seam.specs.Calls.{DeclinesHere, MakesHere}
-use Rattle.roll_seam.specs.Carrying.{IsCarryingFor}
 use Rattle.roll_seam.specs.declared.epochs.Epochs.{Epochs}
 use Rattle.roll_seam.specs.declared.past.Past.{Past}
 use Rattle.roll_session.specs.Changes.{IsWhy}
@@ -32,16 +32,16 @@ pub record IsStartedFrom (step : Step) (o : Opening) (session started : Seen) : 
 
 -- how the next epoch opens: its session starts from the end of this one's, its network follows this one's, and opened so also what
 -- carries beside it; this one's network, what it carried and its session are the epoch before
-pub record GoesOnward (step : Step) (o : Opening) (old new : Chain) (peer next : Peered) (relay carrying : Option Carrying) (session started : Seen)
+pub record GoesOnward (step : Step) (o : Opening) (old new : Chain) (peer next : Peered) (relay carrying : Carrying) (session started : Seen)
     (past : Past Seen) : Type 0 where
   pub starts : IsStartedFrom step o session started
   pub follows : IsFollowedAs started (settings_in old o.terms) peer o.seating next
   pub chain : new ≡ followed_by old o
-  pub carries : IsCarryingFor next carrying
+  pub carries : carrying ≡ opened_beside next
   pub past_is : past ≡ record { peer = peer; relay = relay; session = session }
 
 -- this epoch is over, and the next one has begun; what own players gave past the end was given again, as far as that is taken
-pub record HasGoneOn (step : Step) (old new : Epochs Seen) (peer next : Peered) (relay carrying : Option Carrying) (session after : Seen) : Type 0 where
+pub record HasGoneOn (step : Step) (old new : Epochs Seen) (peer next : Peered) (relay carrying : Carrying) (session after : Seen) : Type 0 where
   pub ending : Ending
   pub over : IsOver session old.chain peer ending
   pub started : Seen

@@ -12,7 +12,7 @@ use roll_frame::Refusal;
 use roll_game::{Game, StartFault};
 use roll_peer::{OpenRefusal, Peer};
 use roll_relay::Relay;
-use roll_seam::{Again, Epochs, Past, relay_for};
+use roll_seam::{Again, Epochs, Past};
 use roll_session::Session;
 use std::alloc::Global;
 use std::mem;
@@ -32,7 +32,7 @@ pub fn go_on<G: Game + Drop>(
     epochs: &mut Epochs<Session<G>>,
     game: G,
     peer: &mut Peer,
-    relay: &mut Option<Relay>,
+    relay: &mut Relay,
     session: &mut Session<G>,
 ) -> Result<(), OnwardFault<G>>
     ensures gone { OnOk result (HasGoneOn G.step epochs.old epochs.new
@@ -54,7 +54,7 @@ fn go_on_judged<G: Game + Drop>(
     epochs: &mut Epochs<Session<G>>,
     game: G,
     peer: &mut Peer,
-    relay: &mut Option<Relay>,
+    relay: &mut Relay,
     session: &mut Session<G>,
 ) -> Result<(), OnwardFault<G>>
     ensures gone { OnOk result (HasGoneOn G.step epochs.old epochs.new peer.old peer.new
@@ -98,7 +98,7 @@ fn follow<G: Game + Drop>(
     chain: &mut Chain,
     game: G,
     peer: &mut Peer,
-    relay: &mut Option<Relay>,
+    relay: &mut Relay,
     session: &mut Session<G>,
     opening: &Opening,
 ) -> Result<Past<Session<G>>, OnwardFault<G>>
@@ -120,7 +120,7 @@ fn follow<G: Game + Drop>(
         Ok(past) => past,
         Err(why) => return Err(unopened(why, next)),
     };
-    let Ok(carrying) = relay_for(alloc, peer) else {
+    let Ok(carrying) = Relay::open(alloc, peer) else {
         *peer = past;
         return Err(unopened(OpenRefusal::NoMemory, next));
     };

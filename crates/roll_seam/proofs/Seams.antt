@@ -1,5 +1,5 @@
 -- A match has gone on in its next epoch.
-use Rattle.std.proofs.Common.{◌≡◌, List, Bool, Option, Some, subst}
+use Rattle.std.proofs.Common.{◌≡◌, List, Bool, Some, subst}
 use Rattle.roll_carry.specs.Carrying.{Carrying}
 use Rattle.roll_chain.specs.Judging.{IsOver}
 use Rattle.roll_chain.specs.Seams.{opening_after}
@@ -17,7 +17,7 @@ use Rattle.roll_seam.specs.declared.epochs.Epochs.{Epochs}
 use Rattle.roll_seam.specs.declared.past.Past.{Past}
 use Rattle.roll_seam.specs.declared.refusal.SeamRefusal.{SeamRefusal}
 
-pub gone_on : (old new : Epochs Ended) (peer next : Peered) (relay carrying : Option Carrying) (session started after : Asked) (closing : List Request)
+pub gone_on : (old new : Epochs Ended) (peer next : Peered) (relay carrying : Carrying) (session started after : Asked) (closing : List Request)
     (past : Past Ended) (o : Opening) (e : Ending) (all : Bool) → IsOver session.seen old.chain peer e → o ≡ opening_after session.seen old.chain peer e
     → new.past ≡ Some past → GoesOn o old.chain new.chain peer next relay carrying session started past closing
     → ArePlayed MakesCall DeclinesCall started (given_again new.chain.terms next.settings.me past.session.seen o.end) after all

@@ -83,14 +83,14 @@ IsNextBefore old new said =
 -- ---- the next epoch
 
 -- nothing is changed
-pub record IsUnmoved (old new : Epochs Ended) (peer next : Peered) (relay carrying : Option Carrying) (session started : Asked) : Type 0 where
+pub record IsUnmoved (old new : Epochs Ended) (peer next : Peered) (relay carrying : Carrying) (session started : Asked) : Type 0 where
   pub epochs : new ≡ old
   pub peer_is : next ≡ peer
   pub relay_is : carrying ≡ relay
   pub session_is : started ≡ session
 
 -- this one is over, and the next one has begun; what own players gave past the end was given again, as far as that is taken
-pub record HasGoneOn (old new : Epochs Ended) (peer next : Peered) (relay carrying : Option Carrying) (session after : Asked) (closing : List Request)
+pub record HasGoneOn (old new : Epochs Ended) (peer next : Peered) (relay carrying : Carrying) (session after : Asked) (closing : List Request)
     : Type 0 where
   pub ending : Ending
   pub over : IsOver session.seen old.chain peer ending
@@ -107,7 +107,7 @@ pub record HasNotGoneOn (old : Epochs Ended) (peer : Peered) (session : Asked) (
   pub over : IsOver session.seen old.chain peer ending
   pub refused : IsWhyNotGone (opening_after session.seen old.chain peer ending) old.chain session why
 
-abbrev pub GoesOnIn : (old new : Epochs Ended) → (peer next : Peered) → (relay carrying : Option Carrying) → (session after : Asked)
+abbrev pub GoesOnIn : (old new : Epochs Ended) → (peer next : Peered) → (relay carrying : Carrying) → (session after : Asked)
     → Result (Option (List Request)) SeamRefusal → Type 0
 GoesOnIn old new peer next relay carrying session after (Ok None) =
     IsUnmoved old new peer next relay carrying session after

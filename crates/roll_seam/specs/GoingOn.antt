@@ -1,5 +1,5 @@
 -- A session, and the network beside it, go on in the next epoch.
-use Rattle.std.specs.Prelude.{◌≡◌, ◌<◌, ◌⊎◌, ℕ, List, [], Option}
+use Rattle.std.specs.Prelude.{◌≡◌, ◌<◌, ◌⊎◌, ℕ, List, []}
 use Rattle.roll_carry.specs.Carrying.{Carrying}
 use Rattle.roll_chain.specs.Chains.{settings_in}
 use Rattle.roll_chain.specs.Seams.{followed_by}
@@ -13,13 +13,13 @@ use Rattle.roll_game.specs.Counts.{no_calls}
 use Rattle.roll_peer.specs.Following.{IsFollowedAs}
 use Rattle.roll_peer.specs.Peered.{IsWhyNot, Peered}
 use Rattle.roll_peer.specs.declared.refusal.OpenRefusal.TheVariants.{NoMemory as NoneLeft}
+use Rattle.roll_relay.specs.Relaying.{opened_beside}
 use Rattle.roll_requests.specs.Asked.{Asked, Leads}
 use Rattle.roll_requests.specs.Ended.{end_refusal, Ended, IsEnded}
 use Rattle.roll_requests.specs.declared.request.Request.{Request}
 use Rattle.roll_session.specs.Changes.{IsWhy}
 use Rattle.roll_session.specs.Started.{first_seen}
 use Rattle.slab.specs.Slab.{slab_len}
-use Rattle.roll_seam.specs.Carrying.{IsCarryingFor}
 use Rattle.roll_seam.specs.declared.past.Past.{Past}
 use Rattle.roll_seam.specs.declared.refusal.SeamRefusal.{SeamRefusal}
 use Rattle.roll_seam.specs.declared.refusal.SeamRefusal.TheVariants.{JobsOut, Network, Session}
@@ -35,13 +35,13 @@ pub record IsStartedAs (settings : Settings) (limit : ℕ) (e : Asked) : Type 0 
 
 -- how the next epoch opens: its session starts, its network follows this one's, and opened so also what carries beside it; this one's
 -- network, what it carried and its session, which had no job out and has ended by these last requests, are the epoch before
-pub record GoesOn (o : Opening) (old new : Chain) (peer next : Peered) (relay carrying : Option Carrying) (session started : Asked)
+pub record GoesOn (o : Opening) (old new : Chain) (peer next : Peered) (relay carrying : Carrying) (session started : Asked)
     (past : Past Ended) (closing : List Request) : Type 0 where
   pub none_out : slab_len session.jobs ≡ 0
   pub starts : IsStartedAs o.settings session.limit started
   pub follows : IsFollowedAs started.seen (settings_in old o.terms) peer o.seating next
   pub chain : new ≡ followed_by old o
-  pub carries : IsCarryingFor next carrying
+  pub carries : carrying ≡ opened_beside next
   pub ended : IsEnded session o.end past.session closing
   pub past_peer : past.peer ≡ peer
   pub past_relay : past.relay ≡ relay

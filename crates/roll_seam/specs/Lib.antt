@@ -1,4 +1,3 @@
-pub mod Carrying
 pub mod Again
 pub mod Calls
 pub mod GoingOn

@@ -127,7 +127,7 @@ impl Epochs<Ended> {
         &mut self,
         alloc: Global,
         peer: &mut Peer,
-        relay: &mut Option<Relay>,
+        relay: &mut Relay,
         session: &mut Elsewhere,
     ) -> Result<Option<Closing>, SeamRefusal>
         ensures { GoesOnIn self.old self.new (judged_in self.old peer.old) peer.new relay.old
@@ -142,7 +142,7 @@ impl Epochs<Ended> {
         &mut self,
         alloc: Global,
         peer: &mut Peer,
-        relay: &mut Option<Relay>,
+        relay: &mut Relay,
         session: &mut Elsewhere,
     ) -> Result<Option<Closing>, SeamRefusal>
         ensures { GoesOnIn self.old self.new peer.old peer.new relay.old relay.new session.old

@@ -1,10 +1,9 @@
 //! A session, and the network beside it, go on in the next epoch.
 ghost use Rattle.std.specs.Prelude.{◌≡◌, IfErr, IfOk, OnErr, OnOk};
+ghost use Rattle.roll_relay.specs.Relaying.{opened_beside};
 ghost use Rattle.roll_requests.specs.Ended.{IsEnded};
-ghost use Rattle.roll_seam.specs.Carrying.{IsCarryingFor};
 ghost use Rattle.roll_seam.specs.GoingOn.{GoesOn, IsShort, IsStartedAs, IsWhyNotGone, IsWhyNotStarted};
 
-use crate::carrying::relay_for;
 use crate::past::Past;
 use crate::refusal::SeamRefusal;
 use roll_chain::{Chain, Opening};
@@ -24,7 +23,7 @@ pub(crate) fn go_on(
     alloc: Global,
     chain: &mut Chain,
     peer: &mut Peer,
-    relay: &mut Option<Relay>,
+    relay: &mut Relay,
     session: &mut Elsewhere,
     opening: &Opening,
 ) -> Result<(Past<Ended>, Closing), SeamRefusal>
@@ -87,19 +86,19 @@ fn start_next(
 fn take_over(
     alloc: Global,
     peer: &Peer,
-    relay: &mut Option<Relay>,
+    relay: &mut Relay,
     session: &mut Elsewhere,
     next: Elsewhere,
     end: u32,
-) -> Result<(Option<Relay>, Ended, Closing), SeamRefusal>
+) -> Result<(Relay, Ended, Closing), SeamRefusal>
     ensures taken { IfOk result (λ it. (it.0 ≡ relay.old) × IsEnded session.old end it.1 it.2) }
     ensures next { OnOk result (session.new ≡ next) }
-    ensures carries { OnOk result (IsCarryingFor peer.now relay.new) }
+    ensures carries { OnOk result (relay.new ≡ opened_beside peer.now) }
     ensures refused { IfErr result IsShort }
     ensures relay { OnErr result (relay.new ≡ relay.old) }
     ensures session { OnErr result (session.new ≡ session.old) }
 {
-    let Ok(carrying) = relay_for(alloc, peer) else {
+    let Ok(carrying) = Relay::open(alloc, peer) else {
         return Err(SeamRefusal::Network(OpenRefusal::NoMemory));
     };
     let old = mem::replace(session, next);

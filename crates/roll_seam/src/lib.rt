@@ -2,7 +2,6 @@
 #![tactic(auto)]
 
 mod again;
-mod carrying;
 mod epochs;
 mod going_on;
 mod past;
@@ -10,7 +9,6 @@ mod plays;
 mod refusal;
 
 pub use again::Again;
-pub use carrying::relay_for;
 pub use epochs::Epochs;
 pub use past::Past;
 pub use plays::Plays;

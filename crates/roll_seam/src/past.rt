@@ -5,7 +5,7 @@ ghost use Rattle.roll_seam.specs.Pasts.{done, turned_past, Hears, IsNextOf, Send
 
 use arrayvec::ArrayVec;
 use roll_peer::{Ignored, OtherSession, Peer};
-use roll_relay::Relay;
+use roll_relay::{Heard, Relay};
 use roll_session::Networked;
 use roll_wire::DATAGRAM_LIMIT;
 
@@ -15,7 +15,7 @@ pub struct Past<S> {
     /// Its network. Silence isn't looked for here: who is gone in one of the two epochs is gone in both.
     pub peer: Peer,
     /// What it carries for others.
-    pub relay: Option<Relay>,
+    pub relay: Relay,
     /// Its session.
     pub session: S,
 }
@@ -25,9 +25,7 @@ impl<S: Networked> Past<S> {
     pub(crate) fn turn(&mut self)
         ensures { self.new ≡ turned_past self.old }
     {
-        if let Some(relay) = &mut self.relay {
-            relay.turn(&self.peer);
-        }
+        self.relay.turn(&self.peer);
     }
 
     /// Hears bytes that came by the network.
@@ -43,10 +41,7 @@ impl<S: Networked> Past<S> {
             relay,
             session,
         } = self;
-        match relay {
-            Some(relay) => done(relay.receive(peer, session, bytes, now)),
-            None => done(peer.receive(session, bytes, now)),
-        }
+        done(relay.receive(peer, session, bytes, now))
     }
 
     /// What is to be sent to a machine straight.
@@ -67,25 +62,19 @@ impl<S: Networked> Past<S> {
             relay,
             session,
         } = self;
-        match relay {
-            Some(relay) => relay.send(peer, session, machine, now),
-            None => peer.send(session, machine, now),
-        }
+        relay.send(peer, session, machine, now)
     }
 
     /// What goes out beside that, and to which machine.
     pub fn next(&mut self) -> Option<(u8, ArrayVec<u8, DATAGRAM_LIMIT>)>
         ensures { IsNextOf self.old self.new (option_map (λ x. (x.0, x.1.items)) result) }
     {
-        match &mut self.relay {
-            Some(relay) => relay.next(&self.peer),
-            None => None,
-        }
+        self.relay.next(&self.peer)
     }
 }
 
 /// That something was heard.
-fn done<T: Copy>(said: Result<T, Ignored>) -> Result<(), Ignored>
+fn done(said: Result<Heard, Ignored>) -> Result<(), Ignored>
     ensures { result ≡ done said }
 {
     match said {

@@ -1,8 +1,6 @@
-use Rattle.std.proofs.Common.{Option, sym, subst}
-use Rattle.roll_carry.specs.Carrying.{Carrying}
+use Rattle.std.proofs.Common.{◌∙◌, sym, subst}
 use Rattle.roll_chain.specs.Chains.{settings_in}
 use Rattle.roll_peer.specs.Following.{IsFollowedAs}
-use Rattle.roll_seam.specs.Carrying.{IsCarryingFor}
 use Rattle.roll_session.specs.Seen.{Seen}
 use Rattle.roll_onward.specs.GoingOn.{IsStartedFrom}
 use Rattle.roll_onward.proofs.going_on.follow.Goals as goal
@@ -17,6 +15,6 @@ returns-clause-goes_on g c =
           subst (λ (s : Seen). IsFollowedAs s (settings_in c.args.chain.now o.terms) c.args.peer.now o.seating c.follow.new.peer) started
           c.in-Ok-follow.ensures.followed;
       chain = c.in-Ok-follow.ensures.chain;
-      carries = subst (λ (r : Option Carrying). IsCarryingFor c.follow.new.peer r) (sym c.replace.ensures.after) c.in-Ok-relay_for.ensures;
+      carries = c.replace.ensures.after ∙ c.in-Ok-open.ensures;
       past_is = λ k. record { peer = c.in-Ok-follow.ensures.past k; relay = c.replace.ensures.value k; session = c.replace-2.ensures.value k };
     }
