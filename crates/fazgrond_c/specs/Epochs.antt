@@ -10,6 +10,7 @@ use Rattle.roll_peer.specs.Marking.{is_numbered, IsMarkedAs, IsWhyUnmarked}
 use Rattle.roll_peer.specs.declared.received.Ignored.{Ignored}
 use Rattle.roll_peer.specs.declared.refusal.MarkRefusal.{MarkRefusal}
 use Rattle.roll_peer.specs.declared.refusal.OtherSession.{OtherSession}
+use Rattle.roll_relay.specs.Relaying.{IsNext}
 use Rattle.roll_requests.specs.Ended.{Ended}
 use Rattle.roll_requests.specs.declared.request.Request.{Request}
 use Rattle.roll_seam.specs.Epochs.{judged_in, shared_peer, turned_in, GoesOnIn, HearsBefore, SendsBefore, IsNextBefore as IsNextOfPast}
@@ -18,7 +19,6 @@ use Rattle.roll_seam.specs.declared.refusal.SeamRefusal.{SeamRefusal}
 use Rattle.roll_session.specs.Gameless.{still}
 use Rattle.roll_session.specs.Seen.{Seen}
 use Rattle.roll_wire.specs.declared.datagram.Mark.{Mark}
-use Rattle.fazgrond_c.specs.Carrying.{IsNextOf}
 use Rattle.fazgrond_c.specs.EpochKinds.{epoch_out, IsMarkFaulty, IsMarkOf}
 use Rattle.fazgrond_c.specs.PeerKinds.{code_of_mark, code_of_mark_fault, code_of_seam}
 use Rattle.fazgrond_c.specs.Waiting.{AreHandedFirst}
@@ -65,10 +65,10 @@ IsNextBefore old new said = MatchOption old
 -- what goes out of this epoch, or else of the one before
 pub record IsNextIn (old new : Network) (said : Option (ℕ × List ℕ)) : Type 0 where
   pub first : Option (ℕ × List ℕ)
-  pub here : Network
-  pub now : IsNextOf old here first
-  pub some : IfSome first (λ it. (said ≡ Some it) × (new ≡ here))
-  pub none : IfNone first (IsNextBefore here.epochs new.epochs said × (new ≡ record here { epochs = new.epochs }))
+  pub now : IsNext old.peer old.relay new.relay first
+  pub some : IfSome first (λ it. (said ≡ Some it) × (new.epochs ≡ old.epochs))
+  pub none : IfNone first (IsNextBefore old.epochs new.epochs said)
+  pub rest : new ≡ record old { relay = new.relay; epochs = new.epochs }
 
 -- what is to be sent in it to a machine is written, or there is nothing
 pub record IsSentBefore (machine now : ℕ) (old new : Network) (before wrote : List ℕ) (had size : ℕ) (code : ℤ) : Type 0 where

@@ -14,7 +14,7 @@ use Rattle.roll_peer.specs.Peered.{IsOpenedAs, IsWhyNot, Peered}
 use Rattle.roll_peer.specs.Settings.{has_numbers, seat_of}
 use Rattle.roll_peer.specs.declared.refusal.OpenRefusal.{OpenRefusal}
 use Rattle.roll_peer.specs.declared.settings.MatchSettings.{MatchSettings}
-use Rattle.roll_seam.specs.Carrying.{IsCarryingFor}
+use Rattle.roll_relay.specs.Relaying.{opened_beside}
 use Rattle.roll_session.specs.Seen.{Seen}
 use Rattle.fazgrond_c.specs.EpochKinds.{AreTermsOf, IsEpochFaulty}
 use Rattle.fazgrond_c.specs.Handles.{network_in, session_in, Opens}
@@ -71,7 +71,7 @@ pub record IsLasting (given : MatchIn) (epoch : EpochIn) (s : Seen) (network : N
   pub numbered : has_numbers (opening_of (chain_in base terms given.comers s)) ≡ true
   pub opened : IsOpenedWithout (chain_in base terms given.comers s) s network.peer
   pub held : IsHeldFor given.held_turns network.held
-  pub carrying : IsCarryingFor network.peer network.relay
+  pub carrying : network.relay ≡ opened_beside network.peer
   pub epochs : network.epochs ≡ Some (record { chain = chain_in base terms given.comers s; past = None })
 
 -- the session isn't one of this epoch

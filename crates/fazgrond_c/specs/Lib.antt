@@ -7,7 +7,6 @@ pub mod Jobs
 pub mod PeerKinds
 pub mod Waiting
 pub mod Written
-pub mod Carrying
 pub mod EpochKinds
 pub mod Epochs
 pub mod Lasting

@@ -1,11 +1,13 @@
 -- What a call of a peer through a handle comes to.
-use Rattle.std.specs.Prelude.{◌≡◌, ◌≢◌, ◌⊎◌, ℕ, ℤ, pos, List, slice_get, not, true, Bool, nat_lt, ◌&&◌, ◌||◌, is_none, Option, Some, None, IfNone, IfSome, IsSome, IsSomeAnd, MatchOption, Result, Ok, Err, IfErr, IfOk, OnErr, OnOk, if◌then◌else◌}
+use Rattle.std.specs.Prelude.{◌≡◌, ◌≢◌, ◌⊎◌, ℕ, ℤ, pos, List, [], slice_get, not, true, Bool, nat_lt, ◌&&◌, ◌||◌, is_none, Option, Some, None, IfNone, IfSome, IsSome, MatchOption, Result, Ok, Err, IfErr, IfOk, OnErr, OnOk, if◌then◌else◌}
 use Rattle.std.specs.Option.{option_map}
-use Rattle.roll_carry.specs.Carrying.{Carrying}
+use Rattle.roll_carry.specs.Carrying.{turned}
 use Rattle.roll_contact.specs.Contacts.{is_playing}
 use Rattle.roll_frame.specs.Core.{settled}
-use Rattle.roll_held.specs.Heard.{beside, HearsHeld, PollsHeld}
+use Rattle.roll_held.specs.Heard.{beside, PollsHeld}
+use Rattle.roll_held.specs.Relayed.{relayed_beside, HearsHeldBy, SendsBy}
 use Rattle.roll_held.specs.Told.{as_told, roomless, IsHeldFault}
+use Rattle.roll_held.specs.Waits.{Waits}
 use Rattle.roll_held.specs.declared.fault.HeldFault.{HeldFault}
 use Rattle.roll_held.specs.declared.held.Held.{Held}
 use Rattle.roll_member.specs.Beside.{IsOf}
@@ -17,21 +19,19 @@ use Rattle.roll_mesh.specs.declared.refusal.MeshRefusal.{MeshRefusal}
 use Rattle.roll_peer.specs.Digests.{noted}
 use Rattle.roll_peer.specs.Events.{popped}
 use Rattle.roll_peer.specs.Peered.{contact_at, IsOpenedAs, IsWhyNot, Peered}
-use Rattle.roll_peer.specs.Receiving.{ignored, meeting, ticking, IsIgnored, IsOther, Receives}
-use Rattle.roll_peer.specs.Sending.{after_send, is_lost, stats_of, IsSent}
+use Rattle.roll_peer.specs.Receiving.{meeting, moment_of, IsOther}
+use Rattle.roll_peer.specs.Sending.{is_lost, stats_of}
 use Rattle.roll_peer.specs.Settings.{has_numbers, seat_of}
-use Rattle.roll_peer.specs.Turning.{IsPolled}
 use Rattle.roll_peer.specs.declared.received.Ignored.{Ignored}
-use Rattle.roll_peer.specs.declared.received.Received.{Received}
 use Rattle.roll_peer.specs.declared.refusal.OpenRefusal.{OpenRefusal}
 use Rattle.roll_peer.specs.declared.refusal.OtherSession.{OtherSession}
 use Rattle.roll_peer.specs.declared.refusal.PeerRefusal.{PeerRefusal}
 use Rattle.roll_peer.specs.declared.settings.MatchSettings.{MatchSettings}
+use Rattle.roll_relay.specs.Relaying.{opened_beside, SaysBye}
+use Rattle.roll_relay.specs.declared.heard.Heard.{Heard}
 use Rattle.roll_requests.specs.Made.{Keeps}
 use Rattle.roll_session.specs.Gameless.{still}
 use Rattle.roll_session.specs.Seen.{Seen}
-use Rattle.roll_seam.specs.Carrying.{IsCarryingFor}
-use Rattle.fazgrond_c.specs.Carrying.{turned_by, IsHeardAheadBy, IsHeardBy, IsSentAheadBy, IsSentBy, SaysByeBy}
 use Rattle.fazgrond_c.specs.Epochs.{epoch_turned, IsHeardBefore, IsNextIn}
 use Rattle.fazgrond_c.specs.Handles.{network_in, session_in, IsNothing, Opens}
 use Rattle.fazgrond_c.specs.PeerKinds.{code_of_mesh, code_of_opening, code_of_refusal, event_out, stats_out, AreMatched, HasNoRoom}
@@ -57,7 +57,7 @@ pub record IsOpened (given : MatchIn) (carries : Bool) (s : Seen) (network : Net
   pub opened : IsOpenedAs s matched network.peer
   pub tied : IsTied s network.peer.member.mesh
   pub held : IsHeldFor given.held_turns network.held
-  pub carrying : IsCarryingFor network.peer network.relay
+  pub carrying : network.relay ≡ opened_beside network.peer
   pub epochs : network.epochs ≡ None
 
 -- there is no such match, or the session can't take its seat in it
@@ -89,53 +89,18 @@ pub record IsOpenedBy (given : MatchIn) (carries : Bool) (lent old new : Option 
 
 -- ---- hearing and sending
 
--- bytes are heard for a session, or they aren't, and nothing is changed but the clock; what their sender sealed is counted and told
-pub record IsHeard (bytes : List ℕ) (now : ℕ) (old new : Peered) (before after : Live) (code : ℤ)
-    : Type 0 where
-  pub result : Result Received Ignored
-  pub received : IfOk result (Receives still before.session.seen after.session.seen
-      (meeting before.session.seen (ticking now old)) new bytes)
-  pub tied : OnOk result (IsTied after.session.seen new.member.mesh)
-  pub accepted : OnOk result (IsOf before.session.seen old.member)
-  pub fine : OnOk result (ignored (meeting before.session.seen (ticking now old)) bytes ≡ None)
-  pub refused : IfErr result (IsIgnored before.session.seen (ticking now old) new bytes)
-  pub unchanged : OnErr result (after ≡ before)
-  pub rest : after ≡ record before { session = after.session }
-  pub keeps : Keeps before.session after.session
-  pub code_is : code ≡ code_of_receipt result
-
--- bytes are heard by a peer that holds words back: to it the session is one that has heard what waits; or nothing is changed
-pub record IsHeardAhead (bytes : List ℕ) (now : ℕ) (old new : Peered) (held later : Held) (before after : Live) (code : ℤ)
-    : Type 0 where
-  pub result : Result (Result Received Ignored) HeldFault
-  pub heard : IfOk result (HearsHeld still (beside before.session.seen held.words.items old)
-      (beside after.session.seen later.words.items new) now bytes)
-  pub turns : later.turns ≡ held.turns
-  pub refused : IfErr result (IsHeldFault before.session.seen held.words.items)
-  pub unchanged : OnErr result ((later ≡ held) × ((after ≡ before) × (new ≡ old)))
+-- bytes are heard that came straight, or of who carries, or they aren't; to the network the session is one that has heard what waits. Or
+-- that can't be told it, and nothing is changed
+pub record IsReceived (bytes : List ℕ) (now : ℕ) (old new : Network) (before after : Live) (code : ℤ) : Type 0 where
+  pub result : Result (Result Heard Ignored) HeldFault
+  pub heard : IfOk result (HearsHeldBy still now (relayed_beside before.session.seen old.held.words.items old.peer old.relay)
+      (relayed_beside after.session.seen new.held.words.items new.peer new.relay) bytes)
+  pub waits : Waits before.session.seen after.session.seen old.held new.held
+  pub refused : IfErr result (IsHeldFault before.session.seen old.held.words.items)
+  pub unchanged : OnErr result ((new.held ≡ old.held) × ((after ≡ before) × ((new.peer ≡ old.peer) × (new.relay ≡ old.relay))))
   pub rest : after ≡ record before { session = after.session }
   pub keeps : Keeps before.session after.session
   pub code_is : code ≡ code_if_told code_of_receipt result
-
--- whether it holds words back or not
-abbrev pub IsHeardStraight : (bytes : List ℕ) → (now : ℕ) → (old new : Network) → (before after : Live) → ℤ → Type 0
-IsHeardStraight bytes now old new before after code = MatchOption old.held
-    ((new.held ≡ None) × IsHeard bytes now old.peer new.peer before after code)
-    (λ held. IsSomeAnd new.held (λ later. IsHeardAhead bytes now old.peer new.peer held later before after code))
-
--- the same of one that carries
-abbrev pub IsHeardCarried : (bytes : List ℕ) → (now : ℕ) → (old new : Network) → (here there : Carrying) → (before after : Live) → ℤ
-    → Type 0
-IsHeardCarried bytes now old new here there before after code = MatchOption old.held
-    ((new.held ≡ None) × IsHeardBy bytes now old.peer new.peer here there before after code)
-    (λ held. IsSomeAnd new.held
-    (λ later. IsHeardAheadBy bytes now old.peer new.peer here there held later before after code))
-
--- whether it carries or not
-abbrev pub IsReceived : (bytes : List ℕ) → (now : ℕ) → (old new : Network) → (before after : Live) → ℤ → Type 0
-IsReceived bytes now old new before after code = MatchOption old.relay
-    ((new.relay ≡ None) × IsHeardStraight bytes now old new before after code)
-    (λ here. IsSomeAnd new.relay (λ there. IsHeardCarried bytes now old new here there before after code))
 
 -- in this epoch, or if they aren't sealed for it, in the one before
 pub record IsReceivedIn (bytes : List ℕ) (now : ℕ) (old new : Network) (before after : Live) (code : ℤ) : Type 0 where
@@ -155,37 +120,24 @@ abbrev pub code_of_poll : Result Unit PeerRefusal → ℤ
 code_of_poll (Ok done) = pos 0
 code_of_poll (Err why) = pos (code_of_refusal why)
 
--- a poll of a session is made, step by step, or there is none; the code says why not, or why a player who is to leave is still there
-pub record IsPolledAtOnce (now : ℕ) (old new : Peered) (before after : Live) (code : ℤ)
-    : Type 0 where
-  pub result : Result Unit PeerRefusal
-  pub polled : IsPolled before.session.seen after.session.seen (ticking now old) new result
-  pub rest : after ≡ record before { session = after.session }
-  pub keeps : Keeps before.session after.session
-  pub code_is : code ≡ code_of_poll result
-
--- a poll of a session from which words are held back: it is told all that waits before somebody leaves; or nothing is changed
-pub record IsPolledAhead (now : ℕ) (old new : Peered) (held later : Held) (before after : Live) (code : ℤ) : Type 0 where
+-- a poll of a session is made, step by step, or there is none; the code says why not, or why a player who is to leave is still there. It
+-- is told all that waits before somebody leaves; or it can't be, and nothing is changed
+pub record IsPolledBeside (now : ℕ) (old new : Peered) (held later : Held) (before after : Live) (code : ℤ) : Type 0 where
   pub result : Result (Result Unit PeerRefusal) HeldFault
   pub polled : IfOk result (PollsHeld (beside before.session.seen held.words.items old)
       (beside after.session.seen later.words.items new) now)
-  pub turns : later.turns ≡ held.turns
+  pub waits : Waits before.session.seen after.session.seen held later
   pub refused : IfErr result (IsHeldFault before.session.seen held.words.items)
   pub unchanged : OnErr result ((later ≡ held) × ((after ≡ before) × (new ≡ old)))
   pub rest : after ≡ record before { session = after.session }
   pub keeps : Keeps before.session after.session
   pub code_is : code ≡ code_if_told code_of_poll result
 
-abbrev pub IsPolledBeside : (now : ℕ) → (old new : Network) → (before after : Live) → ℤ → Type 0
-IsPolledBeside now old new before after code = MatchOption old.held
-    ((new.held ≡ None) × IsPolledAtOnce now old.peer new.peer before after code)
-    (λ held. IsSomeAnd new.held (λ later. IsPolledAhead now old.peer new.peer held later before after code))
-
 -- a turn begins for the epochs of the match, and after it one for what is carried
 abbrev pub IsPolledFor : (now : ℕ) → (old new : Network) → (before after : Live) → ℤ → Type 0
 IsPolledFor now old new before after code =
-    (new.relay ≡ turned_by new.peer old.relay) × (new.epochs ≡ (epoch_turned old).epochs)
-    × IsPolledBeside now (epoch_turned old) new before after code
+    (new.relay ≡ turned (moment_of new.peer) old.relay) × (new.epochs ≡ (epoch_turned old).epochs)
+    × IsPolledBeside now (epoch_turned old).peer new.peer (epoch_turned old).held new.held before after code
 
 -- a peer for which a machine is gone
 abbrev pub without : ℕ → Peered → Peered
@@ -208,53 +160,20 @@ IsPutOutBy machine old new code =
     IsPutOut machine old.peer new.peer code
     × (new.held ≡ old.held) × (new.relay ≡ old.relay) × (new.epochs ≡ old.epochs)
 
--- what is sent to a machine in a turn of a session is written, and counted; nothing is sent to one that is gone, to this one, or
--- where there is none; or the session is another, and nothing is changed but the clock
-pub record IsSentFor (s : Seen) (machine now : ℕ) (old new : Peered) (before after : List ℕ)
-    (had size : ℕ) (code : ℤ) : Type 0 where
-  pub result : Result (Option (List ℕ)) OtherSession
-  pub sent : IfOk result (λ sent. IfSome sent (IsSent s (meeting s (ticking now old)) machine))
-  pub lost : IfOk result (λ sent. is_none sent ≡ is_lost old machine)
-  pub counted : OnOk result (new ≡ after_send (meeting s (ticking now old)) machine)
-  pub accepted : OnOk result (IsOf s old.member)
-  pub other : OnErr result (IsOther s old)
-  pub unchanged : OnErr result (new ≡ ticking now old)
-  pub written : AreSent result before after had size code
-
--- the same for a session that has heard the words that wait; or there is no room for them, or they aren't its next ones, and
--- nothing is changed
-pub record IsSentAhead (machine now : ℕ) (old new : Peered) (held : Held) (live after : Live) (before wrote : List ℕ)
-    (had size : ℕ) (code : ℤ) : Type 0 where
-  pub fault : Option HeldFault
-  pub sent : IfNone fault
-      (IsSentFor (as_told live.session.seen held.words.items 0) machine now old new before wrote had size code)
-  pub refused : IfSome fault (IsHeldFault live.session.seen held.words.items)
-  pub unchanged : IfSome fault (λ why. IsNothing {P = Peered × Live} (code_of_fault why) (old, live) (new, after) before wrote had size code)
-  pub room : roomless after.session.seen ≡ roomless live.session.seen
-  pub rest : after ≡ record live { session = after.session }
-  pub keeps : Keeps live.session after.session
-
-abbrev pub IsSentStraight : (machine now : ℕ) → (old new : Network × Live) → (before wrote : List ℕ) → (had size : ℕ) → ℤ → Type 0
-IsSentStraight machine now old new before wrote had size code = MatchOption old.0.held
-    ((new.1 ≡ old.1)
-    × IsSentFor old.1.session.seen machine now old.0.peer new.0.peer before wrote had size code)
-    (λ held. IsSentAhead machine now old.0.peer new.0.peer held old.1 new.1 before wrote had size code)
-
--- the same of one that carries
-abbrev pub IsSentCarried : (machine now : ℕ) → (old new : Network × Live) → (here there : Carrying) → (before wrote : List ℕ)
-    → (had size : ℕ) → ℤ → Type 0
-IsSentCarried machine now old new here there before wrote had size code = MatchOption old.0.held
-    ((new.1 ≡ old.1)
-    × IsSentBy old.1.session.seen machine now old.0.peer new.0.peer here there before wrote had size code)
-    (λ held. IsSentAheadBy machine now old.0.peer new.0.peer here there held old.1 new.1 before wrote had size code)
-
-abbrev pub IsSentTo : (machine now : ℕ) → (old new : Network × Live) → (before wrote : List ℕ) → (had size : ℕ) → ℤ → Type 0
-IsSentTo machine now old new before wrote had size code =
-    (new.0.held ≡ old.0.held)
-    × (new.0.epochs ≡ old.0.epochs)
-    × MatchOption old.0.relay
-    ((new.0.relay ≡ None) × IsSentStraight machine now old new before wrote had size code)
-    (λ here. IsSomeAnd new.0.relay (λ there. IsSentCarried machine now old new here there before wrote had size code))
+-- what goes straight to a machine in a turn of a session that has heard the words that wait is written, and counted, and the rest is
+-- carried; or there is no room for these words, or they aren't its next ones, and nothing is changed
+pub record IsSentTo (machine now : ℕ) (old new : Network × Live) (before wrote : List ℕ) (had size : ℕ) (code : ℤ) : Type 0 where
+  pub result : Result (Result (Option (List ℕ)) OtherSession) HeldFault
+  pub sent : IfOk result (SendsBy (as_told old.1.session.seen old.0.held.words.items 0) now machine old.0.peer new.0.peer old.0.relay new.0.relay)
+  pub written : IfOk result (λ said. AreSent said before wrote had size code)
+  pub refused : IfErr result (IsHeldFault old.1.session.seen old.0.held.words.items)
+  pub unchanged : IfErr result (λ why. IsNothing (code_of_fault why) old new before wrote had size code)
+  pub held : new.0.held ≡ old.0.held
+  pub epochs : new.0.epochs ≡ old.0.epochs
+  pub room : roomless new.1.session.seen ≡ roomless old.1.session.seen
+  pub untouched : old.0.held.words.items ≡ [] → new.1 ≡ old.1
+  pub rest : new.1 ≡ record old.1 { session = new.1.session }
+  pub keeps : Keeps old.1.session new.1.session
 
 -- what goes out beside that, of this epoch or of the one before, is written, and to which machine it goes; or there is nothing more
 pub record IsSentMore (to : ℕ) (old new : Network) (before after : List ℕ) (had size : ℕ) (code : ℤ) : Type 0 where
@@ -267,7 +186,8 @@ pub record IsSentMore (to : ℕ) (old new : Network) (before after : List ℕ) (
 pub record IsFarewell (machine why : ℕ) (old new : Network) (before after : List ℕ) (had size : ℕ)
     (code : ℤ) : Type 0 where
   pub bytes : Option (List ℕ)
-  pub said : SaysByeBy machine why old new bytes
+  pub said : SaysBye old.peer machine why old.relay new.relay bytes
+  pub rest : new ≡ record old { relay = new.relay }
   pub none : is_none bytes
       ≡ (is_lost old.peer machine || not (is_playing (contact_at old.peer machine).stage))
   pub written : AreWritten bytes before after had size code
@@ -304,11 +224,10 @@ pub record IsNoted (digest : ℕ) (s : Seen) (old new : Peered) (code : ℤ) : T
 
 -- where words are held back, it is noted for the frame that the session has settled, which is less than the peer knows
 abbrev pub IsNotedFor : (digest : ℕ) → Seen → (old new : Network) → ℤ → Type 0
-IsNotedFor digest s old new code = (new.relay ≡ old.relay) × (new.epochs ≡ old.epochs) × MatchOption old.held
-    ((new.held ≡ None) × IsNoted digest s old.peer new.peer code)
-    (λ held. (code ≡ pos 0) × (new ≡ record old {
-      peer = record old.peer { digests = noted (settled s.core) digest old.peer.digests };
-    }))
+IsNotedFor digest s old new code =
+    (new ≡ record old { peer = new.peer })
+    × (((old.held.turns ≡ 0) × IsNoted digest s old.peer new.peer code)
+    ⊎ ((old.held.turns ≢ 0) × ((code ≡ pos 0) × (new.peer ≡ record old.peer { digests = noted (settled s.core) digest old.peer.digests }))))
 
 -- what a peer counted of a machine of its match
 abbrev pub stats_at : ℕ → Peered → Option StatsOut

@@ -1,5 +1,5 @@
 -- What the network of a match holds back from the session beside it, and what a call that asks for it comes to.
-use Rattle.std.specs.Prelude.{◌≡◌, ◌≤◌, ℕ, ℤ, pos, List, [], ◌++◌, drop, length, map, min, take, Option, Some, None, true, IfSome, IsSomeAnd, MatchOption, Result, Ok, Err, IfErr, IfOk, OnErr, OnOk, if◌then◌else◌}
+use Rattle.std.specs.Prelude.{◌≡◌, ℕ, ℤ, pos, List, [], ◌++◌, drop, length, map, min, take, Option, None, true, IfSome, MatchOption, Result, Ok, Err, IfErr, IfOk, OnErr, OnOk, if◌then◌else◌}
 use Rattle.roll_frame.specs.Codes.{code_of}
 use Rattle.roll_frame.specs.declared.entry.Entry.TheVariants.{Remote}
 use Rattle.roll_held.specs.Pressed.{is_pressed}
@@ -20,15 +20,9 @@ use Rattle.fazgrond_c.specs.declared.live.Live.{Live}
 use Rattle.fazgrond_c.specs.declared.network.Network.{Network}
 use Rattle.fazgrond_c.specs.declared.open.Open.{Open}
 
--- words are held back for so many turns at most, and none waits; for none, none is held back
-abbrev pub IsHeldFor : ℕ → Option Held → Type 0
-IsHeldFor turns held = MatchOption held (turns ≡ 0) (λ held.
-    (1 ≤ turns) × ((held.turns ≡ turns) × ((held.words.items ≡ []) × (held.waited.items ≡ []))))
-
--- the words that wait
-abbrev pub waiting_in : Option Held → List RemoteWord
-waiting_in None = []
-waiting_in (Some held) = held.words.items
+-- words are held back for so many turns at most, and none waits
+abbrev pub IsHeldFor : ℕ → Held → Type 0
+IsHeldFor turns held = (held.turns ≡ turns) × ((held.words.items ≡ []) × (held.waited.items ≡ []))
 
 -- the code of what a call of a session from which words are held back came to
 abbrev pub code_of_fault : HeldFault → ℕ
@@ -53,13 +47,13 @@ pub record AreListed (words : List RemoteWord) (before after : List EntryOut) (c
 pub record AreListedBy (old new : Option Open) (before after : List EntryOut) (count : ℕ) : Type 0 where
   pub kept : new ≡ old
   pub closed : network_in old ≡ None → (count ≡ 0) × (after ≡ before)
-  pub listed : IfSome (network_in old) (λ network. AreListed (waiting_in network.held) before after count)
+  pub listed : IfSome (network_in old) (λ network. AreListed network.held.words.items before after count)
 
 -- it is written how many frames a session would run again, if it were told the first so many words that wait; or they aren't its
 -- next ones, or none
 abbrev pub IsRerun : ℕ → Network → Live → (before after : ℕ) → ℤ → Type 0
 IsRerun count network live before after code =
-    let words = take count (waiting_in network.held) in
+    let words = take count network.held.words.items in
     MatchOption (words_refusal_of live.session.seen words)
     ((code ≡ pos 0) × (after ≡ rerun_of live.session.seen words))
     (λ why. (code ≡ pos (code_of why)) × (after ≡ before))
@@ -68,13 +62,13 @@ IsRerun count network live before after code =
 abbrev pub IsPressed : Network → Live → (before after : ℕ) → ℤ → Type 0
 IsPressed network live before after code =
     (code ≡ pos 0)
-    × (after ≡ (if is_pressed live.session.seen (waiting_in network.held) then 1 else 0))
+    × (after ≡ (if is_pressed live.session.seen network.held.words.items then 1 else 0))
 
 -- ---- a guess of all words that wait
 
 abbrev pub IsForetold : ℕ → (old new : Network) → (before after : Live) → (had wrote : ℕ) → ℤ → Type 0
 IsForetold until old new before after had wrote code =
-    let words = waiting_in old.held in
+    let words = old.held.words.items in
     (new ≡ old)
     × IsJobAsked (guess_words_refusal_of before.session.seen words until)
     (words_job_of still before.session.seen words until) before after had wrote code
@@ -98,12 +92,7 @@ pub record AreToldFirst (count : ℕ) (old new : Held) (before after : Live) (co
 
 abbrev pub AreHandedFirst : ℕ → (old new : Network) → (before after : Live) → ℤ → Type 0
 AreHandedFirst count old new before after code =
-    (new.peer ≡ old.peer)
-    × (new.relay ≡ old.relay)
-    × (new.epochs ≡ old.epochs)
-    × MatchOption old.held
-    ((new.held ≡ None) × ((after ≡ before) × (code ≡ pos 0)))
-    (λ held. IsSomeAnd new.held (λ now. AreToldFirst count held now before after code))
+    (new ≡ record old { held = new.held }) × AreToldFirst count old.held new.held before after code
 
 -- the number of words that were handed over is written
 abbrev pub count_in : Result ℕ HeldFault → ℕ → ℕ
@@ -130,9 +119,4 @@ pub record AreToldDue (old new : Held) (before after : Live) (had wrote : ℕ) (
 
 abbrev pub AreHandedDue : (old new : Network) → (before after : Live) → (had wrote : ℕ) → ℤ → Type 0
 AreHandedDue old new before after had wrote code =
-    (new.peer ≡ old.peer)
-    × (new.relay ≡ old.relay)
-    × (new.epochs ≡ old.epochs)
-    × MatchOption old.held
-    ((new.held ≡ None) × ((after ≡ before) × ((code ≡ pos 0) × (wrote ≡ 0))))
-    (λ held. IsSomeAnd new.held (λ now. AreToldDue held now before after had wrote code))
+    (new ≡ record old { held = new.held }) × AreToldDue old.held new.held before after had wrote code

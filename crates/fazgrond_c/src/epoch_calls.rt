@@ -4,7 +4,6 @@ ghost use Rattle.fazgrond_c.specs.Handles.{Fills};
 ghost use Rattle.fazgrond_c.specs.Epochs.{epoch_in, fault_in, is_over_in, is_own, judged_network, stayed_in, GoesOnBeside, GoesOnFrom, GoesOnJudged, IsHeardBefore, IsMarked, IsMarkedIn, IsNextBefore, IsNextIn, IsSentBefore};
 
 use crate::calls::{NOTHING, OTHER_VERSION, PENDING, TOO_SHORT};
-use crate::carrying;
 use crate::epoch_kinds::{EpochIn, MARK_SIZE, MarkIn};
 use crate::live::Live;
 use crate::network::Network;
@@ -36,7 +35,7 @@ pub fn hear_before(network: &mut Network, bytes: &[u8], now: u32) -> i32
 pub fn next(network: &mut Network) -> Option<(u8, ArrayVec<u8, DATAGRAM_LIMIT>)>
     ensures { IsNextIn network.old network.new (option_map (λ x. (x.0, x.1.items)) result) }
 {
-    match carrying::next(network) {
+    match network.relay.next(&network.peer) {
         Some(next) => Some(next),
         None => next_before(network),
     }

@@ -24,8 +24,9 @@ use roll_epoch::Terms;
 use roll_frame::{Refusal, Settings};
 use roll_mesh::PLAYER_LIMIT;
 use roll_peer::{MatchSettings, OpenRefusal, Peer};
+use roll_relay::Relay;
 use roll_requests::Ended;
-use roll_seam::{Epochs, relay_for};
+use roll_seam::Epochs;
 use roll_session::Networked;
 use std::alloc::Global;
 
@@ -82,7 +83,7 @@ fn open_beside(
         Ok(opened) => opened,
         Err(why) => return code_beside(live, base, terms, given.comers, why),
     };
-    let Ok(relay) = relay_for(alloc, &peer) else {
+    let Ok(relay) = Relay::open(alloc, &peer) else {
         return Refusal::NoMemory.code();
     };
     open_in(

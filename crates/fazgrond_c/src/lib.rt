@@ -16,7 +16,6 @@
 ghost use Rattle.std.specs.Prelude.{◌≡◌, ◌++◌, drop, length, take, None};
 
 mod calls;
-mod carrying;
 mod epoch_calls;
 mod epoch_kinds;
 mod epochs;

@@ -1,8 +1,7 @@
 //! The network of a match, the words that it holds back from the session beside it, and what it carries for others.
-ghost use Rattle.std.specs.Prelude.{◌≡◌, ◌≤◌, None, take};
-ghost use Rattle.fazgrond_c.specs.Carrying.{turned_by};
+ghost use Rattle.std.specs.Prelude.{◌≡◌, ◌≤◌, take};
 ghost use Rattle.fazgrond_c.specs.Epochs.{epoch_turned};
-ghost use Rattle.fazgrond_c.specs.Waiting.{waiting_in, IsHeldFor};
+ghost use Rattle.fazgrond_c.specs.Waiting.{IsHeldFor};
 ghost use Rattle.roll_held.specs.declared.held.TheConstants.{TURN_LIMIT};
 
 use roll_held::{Held, RemoteWord};
@@ -15,22 +14,17 @@ use roll_seam::Epochs;
 #[derive(Drop)]
 pub struct Network {
     pub peer: Peer,
-    /// What is held back from the session. None if words go there as they come.
-    pub held: Option<Held>,
-    /// What it carries for others, and has carried. None if it carries nothing.
-    pub relay: Option<Relay>,
+    /// What is held back from the session.
+    pub held: Held,
+    /// What it carries for others, and has carried.
+    pub relay: Relay,
     /// How the match goes on, if it does so in epochs.
     pub epochs: Option<Epochs<Ended>>,
 }
 
 impl Network {
     /// One that holds words back for so many turns at most; for 0, none.
-    pub fn new(
-        peer: Peer,
-        turns: u32,
-        relay: Option<Relay>,
-        epochs: Option<Epochs<Ended>>,
-    ) -> Network
+    pub fn new(peer: Peer, turns: u32, relay: Relay, epochs: Option<Epochs<Ended>>) -> Network
         requires { turns ≤ TURN_LIMIT }
         ensures peer { result.peer ≡ peer }
         ensures held { IsHeldFor turns result.held }
@@ -39,28 +33,9 @@ impl Network {
     {
         Network {
             peer,
-            held: Held::new(turns as u8),
+            held: Held::new(turns as u8).unwrap(),
             relay,
             epochs,
-        }
-    }
-
-    /// The words that wait, in the order in which they came.
-    pub fn waiting(&self) -> &[RemoteWord]
-        ensures { result.now ≡ waiting_in self.now.held }
-    {
-        match &self.held {
-            Some(held) => held.waiting(),
-            None => &[],
-        }
-    }
-
-    /// A turn begins for what is carried.
-    pub fn begin_turn(&mut self)
-        ensures { self.new ≡ record self.old { relay = turned_by self.old.peer self.old.relay } }
-    {
-        if let Some(relay) = &mut self.relay {
-            relay.turn(&self.peer);
         }
     }
 
@@ -73,11 +48,11 @@ impl Network {
         }
     }
 
-    /// The first so many of them, or all if there are fewer.
+    /// The first so many of the words that wait, or all if there are fewer.
     pub fn first(&self, count: u32) -> &[RemoteWord]
-        ensures { result.now ≡ take count (waiting_in self.now.held) }
+        ensures { result.now ≡ take count self.now.held.words.items }
     {
-        let waiting = self.waiting();
+        let waiting = self.held.waiting();
         let count = waiting.len().min(count as usize);
         &waiting[..count]
     }

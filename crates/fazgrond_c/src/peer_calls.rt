@@ -1,20 +1,19 @@
-//! Calls of an open peer, some of them lent the session that it stands beside. Those of one that carries are in `carrying`.
+//! Calls of an open peer, some of them lent the session that it stands beside.
 ghost use Rattle.std.specs.Prelude.{◌≡◌, ◌≢◌, ◌≤◌, ◌++◌, drop, length, pos};
 ghost use Rattle.fazgrond_c.specs.Handles.{Fills};
 ghost use Rattle.fazgrond_c.specs.Written.{code_of_receipt, AreSent};
 ghost use Rattle.roll_held.specs.Relayed.{bytes_of};
-ghost use Rattle.fazgrond_c.specs.Peers.{code_of_poll, stats_at, IsFarewell, IsHeard, IsHeardAhead, IsNoted, IsNotedFor, IsPolledAhead, IsPolledAtOnce, IsPolledBeside, IsPolledFor, IsPutOutBy, IsReceived, IsReceivedIn, IsSentAhead, IsSentMore, IsSentTo, IsToldBy};
+ghost use Rattle.fazgrond_c.specs.Peers.{code_of_poll, stats_at, IsFarewell, IsNoted, IsNotedFor, IsPolledBeside, IsPolledFor, IsPutOutBy, IsReceived, IsReceivedIn, IsSentMore, IsSentTo, IsToldBy};
 
 use crate::calls::{NOTHING, TOO_SHORT};
+use crate::epoch_calls;
 use crate::live::Live;
 use crate::network::Network;
 use crate::peer_kinds::{EventOut, StatsOut};
 use crate::peer_refusal::{
     NOT_SEALED, OTHER_SESSION, code_of_fault, code_of_ignored, code_of_mesh, code_of_refusal,
 };
-use crate::{carrying, epoch_calls};
 use arrayvec::ArrayVec;
-use roll_held::Held;
 use roll_peer::{Ignored, OtherSession, Peer, PeerRefusal};
 use roll_session::Settling;
 use roll_wire::DATAGRAM_LIMIT;
@@ -42,27 +41,7 @@ fn receive_now(network: &mut Network, live: &mut Live, bytes: &[u8], now: u32) -
         relay,
         ..
     } = network;
-    match (held, relay) {
-        (None, None) => hear(peer, live, bytes, now),
-        (Some(held), None) => hear_ahead(held, peer, live, bytes, now),
-        (None, Some(relay)) => carrying::hear(relay, peer, live, bytes, now),
-        (Some(held), Some(relay)) => carrying::hear_ahead(relay, held, peer, live, bytes, now),
-    }
-}
-
-/// Hears bytes for a session that is told their words at once.
-fn hear(peer: &mut Peer, live: &mut Live, bytes: &[u8], now: u32) -> i32
-    ensures { IsHeard bytes.now now peer.old peer.new live.old live.new result }
-{
-    code_of_receipt(peer.receive(&mut live.session, bytes, now))
-}
-
-/// Hears bytes, and holds back their words.
-fn hear_ahead(held: &mut Held, peer: &mut Peer, live: &mut Live, bytes: &[u8], now: u32) -> i32
-    ensures { IsHeardAhead bytes.now now peer.old peer.new held.old held.new live.old live.new
-        result }
-{
-    match held.receive(peer, &mut live.session, bytes, now) {
+    match held.receive(relay, peer, &mut live.session, bytes, now) {
         Ok(said) => code_of_receipt(said),
         Err(why) => code_of_fault(why),
     }
@@ -84,34 +63,18 @@ pub fn poll(network: &mut Network, live: &mut Live, now: u32) -> i32
 {
     network.begin_epoch_turn();
     let code = poll_beside(network, live, now);
-    network.begin_turn();
+    network.relay.turn(&network.peer);
     code
 }
 
 /// What it does beside the session.
 fn poll_beside(network: &mut Network, live: &mut Live, now: u32) -> i32
-    ensures polled { IsPolledBeside now network.old network.new live.old live.new result }
+    ensures polled { IsPolledBeside now network.old.peer network.new.peer network.old.held
+        network.new.held live.old live.new result }
     ensures relay { network.new.relay ≡ network.old.relay }
     ensures epochs { network.new.epochs ≡ network.old.epochs }
 {
     let Network { peer, held, .. } = network;
-    match held {
-        Some(held) => poll_ahead(held, peer, live, now),
-        None => poll_at_once(peer, live, now),
-    }
-}
-
-/// That of a session that is told words at once.
-fn poll_at_once(peer: &mut Peer, live: &mut Live, now: u32) -> i32
-    ensures { IsPolledAtOnce now peer.old peer.new live.old live.new result }
-{
-    code_of_poll(peer.poll(&mut live.session, now))
-}
-
-/// That of one from which they are held back.
-fn poll_ahead(held: &mut Held, peer: &mut Peer, live: &mut Live, now: u32) -> i32
-    ensures { IsPolledAhead now peer.old peer.new held.old held.new live.old live.new result }
-{
     match held.poll(peer, &mut live.session, now) {
         Ok(said) => code_of_poll(said),
         Err(why) => code_of_fault(why),
@@ -131,14 +94,11 @@ fn code_of_poll(said: Result<(), PeerRefusal>) -> i32
 pub fn note_settled(network: &mut Network, live: &Live, digest: u64) -> i32
     ensures { IsNotedFor digest live.now.session.seen network.old network.new result }
 {
-    let Network { peer, held, .. } = network;
-    match held {
-        Some(_) => {
-            peer.note_state_at(live.session.settled(), digest);
-            0
-        }
-        None => note_at_once(peer, live, digest),
+    if network.held.turns() == 0 {
+        return note_at_once(&mut network.peer, live, digest);
     }
+    network.peer.note_state_at(live.session.settled(), digest);
+    0
 }
 
 /// Notes the digest of the settled state of a session that is told words at once.
@@ -176,26 +136,12 @@ pub fn send(
     if out.len() < DATAGRAM_LIMIT {
         return TOO_SHORT;
     }
-    let Network {
-        peer,
-        held,
-        relay,
-        ..
-    } = network;
-    match (held, relay) {
-        (None, None) => write_sent(out, size, peer.send(&live.session, machine, now)),
-        (Some(held), None) => send_ahead(held, peer, live, machine, now, out, size),
-        (None, Some(relay)) => carrying::send(relay, peer, live, machine, now, out, size),
-        (Some(held), Some(relay)) => {
-            carrying::send_ahead(relay, held, peer, live, machine, now, out, size)
-        }
-    }
+    send_now(network, live, machine, now, out, size)
 }
 
-/// Writes what is to be sent for a session from which words are held back.
-fn send_ahead(
-    held: &mut Held,
-    peer: &mut Peer,
+/// Writes it into a buffer that has room.
+fn send_now(
+    network: &mut Network,
     live: &mut Live,
     machine: u8,
     now: u32,
@@ -203,11 +149,16 @@ fn send_ahead(
     size: &mut usize,
 ) -> i32
     requires { DATAGRAM_LIMIT ≤ length out.old }
-    ensures sent { IsSentAhead machine now peer.old peer.new held.old live.old live.new out.old
-        out.new size.old size.new result }
-    ensures same { held.new ≡ held.old }
+    ensures { IsSentTo machine now (network.old, live.old) (network.new, live.new) out.old out.new
+        size.old size.new result }
 {
-    match held.send(peer, &mut live.session, machine, now) {
+    let Network {
+        peer,
+        held,
+        relay,
+        ..
+    } = network;
+    match held.send(relay, peer, &mut live.session, machine, now) {
         Ok(said) => write_sent(out, size, said),
         Err(why) => code_of_fault(why),
     }
@@ -258,7 +209,7 @@ pub fn bye(network: &mut Network, machine: u8, why: u8, out: &mut [u8], size: &m
     if out.len() < DATAGRAM_LIMIT {
         return TOO_SHORT;
     }
-    match carrying::bye(network, machine, why) {
+    match network.relay.bye(&network.peer, machine, why) {
         Some(bytes) => {
             write(out, size, &bytes);
             0

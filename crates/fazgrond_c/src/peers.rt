@@ -13,7 +13,7 @@ use crate::peer_kinds::{EventOut, MATCH_SIZE, MatchIn, StatsOut};
 use crate::peer_refusal::code_of_opening;
 use roll_frame::Refusal;
 use roll_peer::Peer;
-use roll_seam::relay_for;
+use roll_relay::Relay;
 use std::alloc::Global;
 
 /// There is no such machine in the match.
@@ -94,7 +94,7 @@ fn open_beside(
         Ok(peer) => peer,
         Err(why) => return code_of_opening(&settings, why),
     };
-    let Ok(relay) = relay_for(alloc, &peer) else {
+    let Ok(relay) = Relay::open(alloc, &peer) else {
         return Refusal::NoMemory.code();
     };
     open_in(

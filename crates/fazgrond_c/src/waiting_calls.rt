@@ -1,19 +1,19 @@
 //! Calls that ask for the words that wait beside an open peer, most of them lent its session.
 ghost use Rattle.std.specs.Prelude.{◌≡◌, ◌≤◌, ◌++◌, drop, length, map};
-ghost use Rattle.fazgrond_c.specs.Waiting.{waiting_in, word_out, AreHandedDue, AreHandedFirst, AreListed, AreToldDue, AreToldFirst, IsForetold, IsPressed, IsRerun};
+ghost use Rattle.fazgrond_c.specs.Waiting.{word_out, AreHandedDue, AreHandedFirst, AreListed, IsForetold, IsPressed, IsRerun};
 
 use crate::jobs::numbered;
 use crate::kinds::EntryOut;
 use crate::live::Live;
 use crate::network::Network;
 use crate::peer_refusal::code_of_fault;
-use roll_held::{Held, RemoteWord};
+use roll_held::RemoteWord;
 
 /// Writes the words that wait to the front of a buffer, as many as there is room for, and says how many they are.
 pub fn list(network: &Network, out: &mut [EntryOut]) -> usize
-    ensures { AreListed (waiting_in network.now.held) out.old out.new result }
+    ensures { AreListed network.now.held.words.items out.old out.new result }
 {
-    let waiting = network.waiting();
+    let waiting = network.held.waiting();
     let count = out.len().min(waiting.len());
     write_all(&waiting[..count], out);
     count
@@ -46,11 +46,7 @@ pub fn rerun(network: &Network, live: &Live, count: u32, frames: &mut u32) -> i3
 pub fn is_pressed(network: &Network, live: &Live, flag: &mut u32) -> i32
     ensures { IsPressed network.now live.now flag.old flag.new result }
 {
-    let pressed = match &network.held {
-        Some(held) => held.is_pressed(&live.session),
-        None => false,
-    };
-    *flag = u32::from(pressed);
+    *flag = u32::from(network.held.is_pressed(&live.session));
     0
 }
 
@@ -58,7 +54,7 @@ pub fn is_pressed(network: &Network, live: &Live, flag: &mut u32) -> i32
 pub fn guess(network: &Network, live: &mut Live, until: u32, job: &mut u32) -> i32
     ensures { IsForetold until network.now network.now live.old live.new job.old job.new result }
 {
-    let outcome = live.session.guess_words(network.waiting(), until);
+    let outcome = live.session.guess_words(network.held.waiting(), until);
     numbered(live, job, outcome)
 }
 
@@ -66,17 +62,7 @@ pub fn guess(network: &Network, live: &mut Live, until: u32, job: &mut u32) -> i
 pub fn hand_over(network: &mut Network, live: &mut Live, count: u32) -> i32
     ensures { AreHandedFirst count network.old network.new live.old live.new result }
 {
-    match &mut network.held {
-        Some(held) => tell_first(held, live, count),
-        None => 0,
-    }
-}
-
-/// Tells a session the first so many words that wait.
-fn tell_first(held: &mut Held, live: &mut Live, count: u32) -> i32
-    ensures { AreToldFirst count held.old held.new live.old live.new result }
-{
-    match held.hand_over(&mut live.session, count as usize) {
+    match network.held.hand_over(&mut live.session, count as usize) {
         Ok(()) => 0,
         Err(why) => code_of_fault(why),
     }
@@ -86,20 +72,7 @@ fn tell_first(held: &mut Held, live: &mut Live, count: u32) -> i32
 pub fn hand_over_due(network: &mut Network, live: &mut Live, handed: &mut u32) -> i32
     ensures { AreHandedDue network.old network.new live.old live.new handed.old handed.new result }
 {
-    match &mut network.held {
-        Some(held) => tell_due(held, live, handed),
-        None => {
-            *handed = 0;
-            0
-        }
-    }
-}
-
-/// Tells a session the words that are due.
-fn tell_due(held: &mut Held, live: &mut Live, handed: &mut u32) -> i32
-    ensures { AreToldDue held.old held.new live.old live.new handed.old handed.new result }
-{
-    match held.turn(&mut live.session) {
+    match network.held.turn(&mut live.session) {
         Ok(count) => {
             *handed = count as u32;
             0

@@ -1,10 +1,9 @@
-use Rattle.std.proofs.Common.{◌≡◌, ◌∙◌, rules, w32, inl, inr, refl, sym, subst, ap, Some, Option}
+use Rattle.std.proofs.Common.{◌≡◌, ◌∙◌, rules, w32, inl, inr, refl, sym, subst, ap, Some}
 use Rattle.std.specs.Prelude.{FitsSigned, pos}
 use Rattle.std.proofs.lemmas.Int.{to_z-of_z}
-use Rattle.roll_carry.specs.Carrying.{Carrying}
 use Rattle.roll_frame.specs.declared.settings.Settings.{Settings}
 use Rattle.roll_peer.specs.Peered.{Peered}
-use Rattle.roll_seam.specs.Carrying.{IsCarryingFor}
+use Rattle.roll_relay.specs.Relaying.{opened_beside}
 use Rattle.fazgrond_c.specs.Lasting.{chain_in, is_played, opening_of, IsLasting, IsOpenedWithout}
 use Rattle.fazgrond_c.proofs.Openings.{not_opened}
 use Rattle.fazgrond_c.proofs.epochs.open_beside.Goals as goal
@@ -12,10 +11,10 @@ use Rattle.fazgrond_c.proofs.epochs.open_beside.Goals as goal
 not_open : pos 107 ≡ pos 0 → ⊥
 not_open e = cc
 
-pub returns-in_default-relay_for : goal.returns-in_default-relay_for
-returns-in_default-relay_for c =
-    let fits : FitsSigned w32 c.code-in_default-relay_for.result = search rules in
-    let short : c.code-in_default-relay_for.result ≡ pos 107 = c.code-in_default-relay_for.ensures in
+pub returns-in_default-open : goal.returns-in_default-open
+returns-in_default-open c =
+    let fits : FitsSigned w32 c.code-in_default-open.result = search rules in
+    let short : c.code-in_default-open.result ≡ pos 107 = c.code-in_default-open.ensures in
     rw to_z-of_z
     (record {
       opens = record { opened = λ e. absurd (not_open (sym short ∙ e)); refused = λ n. refl };
@@ -58,8 +57,7 @@ returns c =
       numbered = c.in-Ok.ensures.numbered;
       opened = subst (λ (p : Peered). IsOpenedWithout chain s p) (sym c.new.ensures.peer) c.in-Ok.ensures.opened;
       held = c.new.ensures.held;
-      carrying = subst (λ (p : Peered). IsCarryingFor p c.new.result.relay) (sym c.new.ensures.peer)
-          (subst (λ (r : Option Carrying). IsCarryingFor c.in-Ok.opened.0 r) (sym c.new.ensures.relay) c.in-Ok-relay_for.ensures);
+      carrying = c.new.ensures.relay ∙ c.in-Ok-open.ensures ∙ ap opened_beside (sym c.new.ensures.peer);
       epochs = c.new.ensures.epochs ∙ ap Some c.in-Ok.ensures.epochs;
     } in
     rw to_z-of_z

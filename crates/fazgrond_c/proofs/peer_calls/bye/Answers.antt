@@ -7,6 +7,7 @@ returns-in-Some c = record {
   filled = λ room. record {
     bytes = Some c.in-Some.bytes.items;
     said = c.in-Some.ensures.said;
+    rest = refl;
     none = c.in-Some.ensures.none;
     written = (refl, (c.write.ensures.bytes, c.write.ensures.size));
   };

@@ -4,13 +4,12 @@ use Rattle.std.proofs.lemmas.Int.{to_z-of_z}
 use Rattle.roll_frame.specs.Codes.{code_of}
 use Rattle.roll_frame.specs.declared.refusal.Refusal.{Refusal}
 use Rattle.roll_session.specs.Foretold.{rerun_of, words_refusal_of}
-use Rattle.fazgrond_c.specs.Waiting.{waiting_in}
 use Rattle.fazgrond_c.proofs.waiting_calls.rerun.Goals as goal
 
 pub returns-in-Err : goal.returns-in-Err
 returns-in-Err c =
     let s = c.args.live.now.session.seen in
-    let words = take c.args.count (waiting_in c.args.network.now.held) in
+    let words = take c.args.count c.args.network.now.held.words.items in
     let why : words_refusal_of s words ≡ Some c.in-Err.why = ap (words_refusal_of s) (sym c.first.ensures) ∙ c.in-Err.ensures.refused in
     let fits : FitsSigned w32 c.code.result = search rules in
     rw to_z-of_z
