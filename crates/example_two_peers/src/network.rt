@@ -31,6 +31,7 @@ impl Draws {
     /// A number below another.
     pub fn below(&mut self, count: u32) -> u32
         requires { 0 < count }
+        ensures { result < count }
     {
         self.generator.next_word() % count
     }
