@@ -1,0 +1,5 @@
+pub mod Opening
+pub mod Hearing
+pub mod GoingOut
+pub mod Turning
+pub mod Telling

@@ -1,0 +1,142 @@
+//! Sessions beside which a match goes on in epochs.
+ghost use Rattle.std.specs.Prelude.{◌≡◌, IfOk, OnErr};
+ghost use Rattle.roll_match.specs.Turning.{GoesOnOrNot};
+ghost use Rattle.roll_seam.specs.Epochs.{judged_in};
+
+use roll_game::Game;
+use roll_onward::OnwardFault;
+use roll_peer::Peer;
+use roll_relay::Relay;
+use roll_requests::{Closing, Elsewhere, Ended};
+use roll_seam::Epochs;
+use roll_session::{Networked, Session, Settling};
+use std::alloc::Global;
+
+/// A session beside which a match goes on in epochs: one that has its game, or one whose game is elsewhere.
+pub trait Lasting: Settling {
+    ghost use Rattle.roll_carry.specs.Carrying.{Carrying};
+    ghost use Rattle.roll_peer.specs.Peered.{Peered};
+    ghost use Rattle.roll_seam.specs.declared.epochs.Epochs.{Epochs};
+
+    /// What it is in the epoch before.
+    type Past: Networked + Drop;
+    /// What the session of the next epoch needs: an engine of the game, or nothing where the game is elsewhere.
+    type Engine: Drop;
+    /// What the end of an epoch leaves to the program: nothing, or requests that the game is to carry out before all later ones.
+    type Last: Drop;
+
+    /// The epoch was over, and the next one has begun.
+    ghost has_gone_on: { (old new : Epochs Self.Past) → (peer next : Peered)
+        → (relay carrying : Carrying) → (session after : Self) → Self.Last → Type 0 };
+
+    /// The epoch isn't over, or why the next one doesn't begin.
+    ghost has_not_gone_on: { (old : Epochs Self.Past) → (peer : Peered) → (session : Self)
+        → Type 0 };
+
+    /// Goes on in the next epoch, if this one is over. Marks are judged first.
+    ///
+    /// # Errors
+    ///
+    /// If it isn't over, or the next one doesn't open: the engine. Nothing else changed then.
+    fn go_on(
+        &mut self,
+        alloc: Global,
+        epochs: &mut Epochs<Self::Past>,
+        peer: &mut Peer,
+        relay: &mut Relay,
+        engine: Self::Engine,
+    ) -> Result<Self::Last, Self::Engine>
+        ensures gone { IfOk result (λ last. has_gone_on epochs.old epochs.new
+            (judged_in epochs.old peer.old) peer.new relay.old relay.new self.old self.new last) }
+        ensures why { OnErr result
+            (has_not_gone_on epochs.old (judged_in epochs.old peer.old) self.old) }
+        ensures epochs { OnErr result (epochs.new ≡ epochs.old) }
+        ensures peer { OnErr result (peer.new ≡ judged_in epochs.old peer.old) }
+        ensures relay { OnErr result (relay.new ≡ relay.old) }
+        ensures unchanged { OnErr result (self.new ≡ self.old) };
+}
+
+impl<G: Game + Drop> Lasting for Session<G> {
+    ghost use Rattle.roll_match.specs.Turning.{StaysHere};
+    ghost use Rattle.roll_onward.specs.GoingOn.{HasGoneOn};
+
+    type Past = Session<G>;
+
+    type Engine = G;
+
+    type Last = ();
+
+    ghost has_gone_on = { λ old new peer next relay carrying session after last.
+        HasGoneOn G.step old new peer next relay carrying session after };
+
+    ghost has_not_gone_on = { λ old peer session. StaysHere G.step old peer session };
+
+    fn go_on(
+        &mut self,
+        alloc: Global,
+        epochs: &mut Epochs<Session<G>>,
+        peer: &mut Peer,
+        relay: &mut Relay,
+        engine: G,
+    ) -> Result<(), G> {
+        match roll_onward::go_on(alloc, epochs, engine, peer, relay, self) {
+            Ok(()) => Ok(()),
+            Err(OnwardFault { game, .. }) => Err(game),
+        }
+    }
+}
+
+impl Lasting for Elsewhere {
+    ghost use Rattle.roll_match.specs.Turning.{StaysElsewhere};
+    ghost use Rattle.roll_seam.specs.Epochs.{HasGoneOn};
+
+    type Past = Ended;
+
+    type Engine = ();
+
+    type Last = Closing;
+
+    ghost has_gone_on = { λ old new peer next relay carrying session after last.
+        HasGoneOn old new peer next relay carrying session after last };
+
+    ghost has_not_gone_on = { λ old peer session. StaysElsewhere old peer session };
+
+    fn go_on(
+        &mut self,
+        alloc: Global,
+        epochs: &mut Epochs<Ended>,
+        peer: &mut Peer,
+        relay: &mut Relay,
+        engine: (),
+    ) -> Result<Closing, ()> {
+        match epochs.go_on(alloc, peer, relay, self) {
+            Ok(Some(closing)) => Ok(closing),
+            Ok(None) => Err(engine),
+            Err(_) => Err(engine),
+        }
+    }
+}
+
+/// Goes on in the next epoch if this one is over, and what the session of the next one needs is there.
+pub(crate) fn go_on_with<S: Lasting>(
+    alloc: Global,
+    session: &mut S,
+    epochs: &mut Epochs<S::Past>,
+    peer: &mut Peer,
+    relay: &mut Relay,
+    engine: &mut Option<S::Engine>,
+) -> Option<S::Last>
+    ensures { GoesOnOrNot S.has_gone_on S.has_not_gone_on epochs.old epochs.new peer.old peer.new
+        relay.old relay.new session.old session.new engine.old engine.new result }
+{
+    match engine.take() {
+        Some(given) => match session.go_on(alloc, epochs, peer, relay, given) {
+            Ok(last) => Some(last),
+            Err(given) => {
+                *engine = Some(given);
+                None
+            }
+        },
+        None => None,
+    }
+}
