@@ -1,5 +1,10 @@
 pub mod Opening
 pub mod Hearing
 pub mod GoingOut
+pub mod Deeds
 pub mod Turning
 pub mod Telling
+pub mod Epochs
+pub mod OneMatch
+pub mod Judged
+pub mod Later
