@@ -12,13 +12,13 @@ use roll_relay::Heard;
 impl<S: Lasting> Match<S> {
     /// Hears a datagram that came by the network, at a moment: `now` is this machine's clock in milliseconds, which may wrap round. Give
     /// it all bytes that come to the program's socket, from wherever and however often: a datagram of this epoch or of the one before,
-    /// who hears whom, what another machine carries, or what isn't of this match. Inputs that came the session is given at once, or they
-    /// wait for it; nothing is given twice.
+    /// who hears whom, what another machine carries, or what isn't of this match. The session gets the inputs that came at once, or they
+    /// wait for it; it gets none twice.
     ///
     /// # Errors
     ///
-    /// Why the datagram isn't heard. Then the session isn't changed. What isn't of this match, or comes again, is no fault of the
-    /// program: it can go on without a look at the answer.
+    /// Why this machine doesn't hear the datagram: then nothing of it comes to the session. Strangers' bytes and old datagrams are no
+    /// fault of the program, which can go on without a look at the answer.
     pub fn receive(&mut self, session: &mut S, bytes: &[u8], now: u32) -> Result<(), Unheard>
         ensures heard { Hears S.step S.Past.seen S.Past.step bytes.now now (S.seen session.old)
             (S.seen session.new) self.old self.new result }

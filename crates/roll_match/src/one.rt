@@ -11,7 +11,7 @@ use roll_seam::Epochs;
 /// A turn of the main loop, some 60 times a second:
 ///
 /// - `receive` for each datagram that came;
-/// - `turn`, and at its word what the end of an epoch asks for;
+/// - `turn`, and at the end of an epoch what it leaves to the program;
 /// - if `is_running`: give the session an input of each player of this machine, and advance it; `note` the digest of its settled state;
 /// - `next` until it answers None: send each datagram to the machine that it names;
 /// - `event` until it answers None.

@@ -21,8 +21,8 @@ impl<S: Lasting> Match<S> {
     /// delays of `chain.terms()`. Machines that own no player in the epoch are gone from the start. A match that doesn't go on has
     /// settings that take no marks: its only epoch never ends.
     ///
-    /// `held_turns` is for how many turns, 0 to 8, an input of another machine waits at most before the session is given it. Meanwhile
-    /// another thread can run its frames ahead. 0: the session is given each input as it comes.
+    /// `held_turns` is for how many turns, 0 to 8, an input of another machine waits at most before the session gets it. Meanwhile
+    /// another thread can run its frames ahead. 0: the session gets each input as it comes.
     ///
     /// # Errors
     ///

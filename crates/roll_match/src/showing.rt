@@ -39,8 +39,8 @@ impl<S: Lasting> Match<S> {
         self.peer.settings()
     }
 
-    /// What was counted and measured of the datagrams between this machine and another, from 0, in this epoch. None if there can be
-    /// none of this number.
+    /// What was counted and measured of the datagrams between this machine and another, from 0. A machine that stays keeps its counts in
+    /// the next epoch. None for a number over 7.
     pub fn stats(&self, machine: u8) -> Option<Stats>
         ensures { result ≡ (if nat_lt machine MACHINE_LIMIT
             then Some (stats_of self.now.peer machine) else None) }

@@ -26,13 +26,13 @@ impl<S: Lasting> Match<S> {
     }
 
     /// Puts a mark on the next input of a player of this machine, which says what is to be otherwise in the next epoch: this one ends by
-    /// it. The player is counted from 1, and is the first of its input's words. Answers the frame of that input. The session is given all
-    /// inputs that wait first.
+    /// it. The player is counted from 1, and is the first word of its input. Answers the frame of that input. The session gets all inputs
+    /// that wait first.
     ///
     /// # Errors
     ///
     /// The first of these that holds: all machines would find the mark void; the session has no room for the inputs that wait, or isn't
-    /// the match's; the player takes no mark. Nothing else changed then, but the session may have been given what waited.
+    /// the match's; the player takes no mark. Nothing else changed then, but the session may have got what waited.
     pub fn mark(&mut self, session: &mut S, player: u8, mark: Mark) -> Result<u32, Unmarked>
         ensures marked { Marks S.seen player mark session.old session.new self.old self.new result }
         ensures keeps { S.keeps session.old session.new }

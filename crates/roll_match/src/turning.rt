@@ -14,8 +14,8 @@ pub struct Turn<L> {
     /// What the network answered: an error if the session isn't the match's, if it refuses that a player leaves it, or if it has no room
     /// for the inputs that wait for it. The next turn tries it again.
     pub polled: Result<Result<(), PeerRefusal>, HeldFault>,
-    /// How many words of inputs had waited for as long as they may, and were given to the session; or why none were. The next turn tries
-    /// it again.
+    /// How many words of inputs had waited for as many turns as they may, so that the session got them; or why it got none. The next
+    /// turn tries it again.
     pub handed: Result<usize, HeldFault>,
     /// If the epoch was over, and the next one has begun: what its end leaves to the program, which it does first of all. The session
     /// has begun anew, and stands at the frame up to which it ran what the players of this machine had given past the end.
@@ -26,9 +26,9 @@ impl<S: Lasting> Match<S> {
     /// A turn begins, at a moment: `now` is this machine's clock in milliseconds, which may wrap round. Call it once in each turn of the
     /// main loop, after `receive` and before the session plays and `next`.
     ///
-    /// A machine that was silent for too long is regarded as gone from now on, and its players leave the session. The session is given
-    /// the inputs that have waited for as many turns as they may. Marks are judged; and if the epoch is over, and the session of the next
-    /// one can be started, that begins: see [`Match::give_engine`]. Events tell what happened.
+    /// A machine that was silent for too long is gone from now on, and its players leave the session. The session gets the inputs that
+    /// have waited for as many turns as they may. If the epoch is over, the next one begins, once its session has what it needs
+    /// ([`Match::give_engine`]) and there is memory. Events tell what happened.
     pub fn turn(&mut self, alloc: Global, session: &mut S, now: u32) -> Turn<S::Last>
         ensures { Turns S.seen S.has_gone_on S.has_not_gone_on now session.old session.new self.old
             self.new result.polled result.handed result.last }
