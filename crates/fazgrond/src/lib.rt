@@ -8,13 +8,13 @@
 //! - **A session** plays it on one thread: [`Settings`] and [`Session`]. A call that is not taken answers a [`Refusal`].
 //! - **Over a network**: a [`Peer`] stands beside a session in a match of several machines ([`MatchSettings`]). It makes and hears
 //!   datagrams, and says what happened ([`PeerEvent`]). The session stays the program's, and is lent to its calls.
-//!   If frames are dear, words that came are held back ([`holding`]) until another thread has run their frames: then no frame is run
-//!   again on the thread that draws.
+//!   If frames are dear, words that came are held back ([`relaying::Held`]) until another thread has run their frames: then no frame
+//!   is run again on the thread that draws.
 //!   Where the line between two of three or more machines may break, a [`relaying::Relay`] stands beside the peer: then others carry
 //!   what goes between the two.
 //! - **In epochs** a match goes on when somebody comes, comes back, or is to have another delay: a mark ([`Peer::mark`]) on a word says so,
 //!   and where it counts the epoch ends. A [`Chain`] has the terms of this epoch ([`epochs`]) and says when it is over; [`Epochs`] has it
-//!   beside the peer, and the epoch before as long as somebody may still be in it. [`onward::go_on`] starts the next one: its session
+//!   beside the peer, and the epoch before as long as somebody may still be in it. [`go_on`] starts the next one: its session
 //!   begins with the state at the end of this one.
 //! - **Beside other threads**: [`Host`] has a session, [`Link`]s that bring remote words from the network's thread, and the
 //!   workers of a [`Crew`], which run guesses ahead.
@@ -43,7 +43,10 @@ pub use roll_branch::PackedRoute;
 pub use roll_branch::extend;
 pub use roll_cert as claims;
 pub use roll_chain::Chain;
+pub use roll_chain::Epochs;
 pub use roll_chain::Opening;
+pub use roll_chain::Past;
+pub use roll_chain::go_on;
 pub use roll_chain::ticket_for;
 pub use roll_epoch as epochs;
 pub use roll_frame::Advice;
@@ -69,7 +72,6 @@ pub use roll_guess::PartsRefusal;
 pub use roll_guess::PlayerHabits;
 pub use roll_guess::Ranking;
 pub use roll_guess::WordParts;
-pub use roll_held as holding;
 pub use roll_host::Absorbed;
 pub use roll_host::Host;
 pub use roll_host::HostReply;
@@ -85,7 +87,6 @@ pub use roll_link::Remote;
 pub use roll_link::SendFault;
 pub use roll_member::JoinRefusal;
 pub use roll_member::Taken;
-pub use roll_onward as onward;
 pub use roll_peer::Field;
 pub use roll_peer::Ignored;
 pub use roll_peer::MarkRefusal;
@@ -111,8 +112,6 @@ pub use roll_pool::WORKER_LIMIT;
 pub use roll_pool::WorkerEnd;
 pub use roll_pool::start_all;
 pub use roll_relay as relaying;
-pub use roll_seam::Epochs;
-pub use roll_seam::Past;
 pub use roll_session::Call;
 pub use roll_session::Grafted;
 pub use roll_session::Heard;

@@ -13,9 +13,9 @@ use Rattle.roll_peer.specs.declared.refusal.OtherSession.{OtherSession}
 use Rattle.roll_relay.specs.Relaying.{IsNext}
 use Rattle.roll_requests.specs.Ended.{Ended}
 use Rattle.roll_requests.specs.declared.request.Request.{Request}
-use Rattle.roll_seam.specs.Epochs.{judged_in, shared_peer, turned_in, GoesOnIn, HearsBefore, SendsBefore, IsNextBefore as IsNextOfPast}
-use Rattle.roll_seam.specs.declared.epochs.Epochs.{Epochs}
-use Rattle.roll_seam.specs.declared.refusal.SeamRefusal.{SeamRefusal}
+use Rattle.roll_chain.specs.Epochs.{judged_in, shared_peer, turned_in, GoesOnIn, HearsBefore, SendsBefore, IsNextBefore as IsNextOfPast}
+use Rattle.roll_chain.specs.declared.epochs.Epochs.{Epochs}
+use Rattle.roll_chain.specs.declared.seam_refusal.SeamRefusal.{SeamRefusal}
 use Rattle.roll_session.specs.Gameless.{still}
 use Rattle.roll_session.specs.Seen.{Seen}
 use Rattle.roll_wire.specs.declared.datagram.Mark.{Mark}

@@ -3,7 +3,7 @@ use Rattle.std.specs.Prelude.{◌≡◌, ◌⊎◌, ℕ, ℤ, pos, List, Option,
 use Rattle.roll_frame.specs.Core.{Core}
 use Rattle.roll_contact.specs.Contacts.{is_playing}
 use Rattle.roll_requests.specs.Ended.{Ended}
-use Rattle.roll_seam.specs.declared.past.Past.{Past}
+use Rattle.roll_chain.specs.declared.past.Past.{Past}
 use Rattle.roll_viewer.specs.Ends.{Hosted, host_sends, host_told, ignored_by_host, opened_host, HostHears}
 use Rattle.roll_viewer.specs.Lines.{after_bye, after_refusal, farewell, fault_of, is_silent, opened as what_is_in, silence}
 use Rattle.roll_viewer.specs.Seeing.{TellsRows}

@@ -6,7 +6,7 @@ use Rattle.roll_contact.specs.declared.terms.Field.{Field}
 use Rattle.roll_contact.specs.declared.terms.Field.TheVariants.{Lasting, Machines, Opening, Owners, Settings, Words}
 use Rattle.roll_epoch.specs.declared.faults.MarkFault.{MarkFault}
 use Rattle.roll_epoch.specs.declared.faults.MarkFault.TheVariants.{Delay, OthersDelay, Threshold, Ticket, UnlikeDelays}
-use Rattle.roll_held.specs.declared.held.TheConstants.{TURN_LIMIT}
+use Rattle.roll_relay.specs.declared.held.TheConstants.{TURN_LIMIT}
 use Rattle.roll_member.specs.declared.join.JoinRefusal.{JoinRefusal}
 use Rattle.roll_member.specs.declared.join.JoinRefusal.TheVariants.{InvalidSeat, Players, Started}
 use Rattle.roll_mesh.specs.Groups.{first_of}
@@ -28,8 +28,8 @@ use Rattle.roll_peer.specs.declared.refusal.PeerRefusal.{PeerRefusal}
 use Rattle.roll_peer.specs.declared.refusal.PeerRefusal.TheVariants.{OtherSession, Session}
 use Rattle.roll_peer.specs.declared.settings.MatchSettings.{MatchSettings}
 use Rattle.roll_peer.specs.declared.stats.Stats.{Stats}
-use Rattle.roll_seam.specs.declared.refusal.SeamRefusal.{SeamRefusal}
-use Rattle.roll_seam.specs.declared.refusal.SeamRefusal.TheVariants.{JobsOut, Session as SeamOf, Network as SeamIn}
+use Rattle.roll_chain.specs.declared.seam_refusal.SeamRefusal.{SeamRefusal}
+use Rattle.roll_chain.specs.declared.seam_refusal.SeamRefusal.TheVariants.{JobsOut, Session as SeamOf, Network as SeamIn}
 use Rattle.fazgrond_c.specs.declared.peer_kinds.EventOut.{EventOut}
 use Rattle.fazgrond_c.specs.declared.peer_kinds.MatchIn.{MatchIn}
 use Rattle.fazgrond_c.specs.declared.peer_kinds.StatsOut.{StatsOut}

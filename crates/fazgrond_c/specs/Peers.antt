@@ -4,12 +4,12 @@ use Rattle.std.specs.Option.{option_map}
 use Rattle.roll_carry.specs.Carrying.{turned}
 use Rattle.roll_contact.specs.Contacts.{is_playing}
 use Rattle.roll_frame.specs.Core.{settled}
-use Rattle.roll_held.specs.Heard.{beside, PollsHeld}
-use Rattle.roll_held.specs.Relayed.{relayed_beside, HearsHeldBy, SendsBy}
-use Rattle.roll_held.specs.Told.{as_told, roomless, IsHeldFault}
-use Rattle.roll_held.specs.Waits.{Waits}
-use Rattle.roll_held.specs.declared.fault.HeldFault.{HeldFault}
-use Rattle.roll_held.specs.declared.held.Held.{Held}
+use Rattle.roll_relay.specs.Heard.{beside, PollsHeld}
+use Rattle.roll_relay.specs.Relayed.{relayed_beside, HearsHeldBy, SendsBy}
+use Rattle.roll_relay.specs.Told.{as_told, roomless, IsHeldFault}
+use Rattle.roll_relay.specs.Waits.{Waits}
+use Rattle.roll_relay.specs.declared.fault.HeldFault.{HeldFault}
+use Rattle.roll_relay.specs.declared.held.Held.{Held}
 use Rattle.roll_member.specs.Beside.{IsOf}
 use Rattle.roll_member.specs.Joined.{join_refusal, IsTied}
 use Rattle.roll_mesh.specs.Machines.{leave}

@@ -2,12 +2,12 @@
 use Rattle.std.specs.Prelude.{◌≡◌, ℕ, ℤ, pos, List, [], ◌++◌, drop, length, map, min, take, Option, None, true, IfSome, MatchOption, Result, Ok, Err, IfErr, IfOk, OnErr, OnOk, if◌then◌else◌}
 use Rattle.roll_frame.specs.Codes.{code_of}
 use Rattle.roll_frame.specs.declared.entry.Entry.TheVariants.{Remote}
-use Rattle.roll_held.specs.Pressed.{is_pressed}
-use Rattle.roll_held.specs.Told.{are_next, roomless, told, IsHeldFault}
-use Rattle.roll_held.specs.Turns.{after_turn, due, lessened}
-use Rattle.roll_held.specs.declared.fault.HeldFault.{HeldFault}
-use Rattle.roll_held.specs.declared.fault.HeldFault.TheVariants.{OtherSession, Session}
-use Rattle.roll_held.specs.declared.held.Held.{Held}
+use Rattle.roll_relay.specs.Pressed.{is_pressed}
+use Rattle.roll_relay.specs.Told.{are_next, roomless, told, IsHeldFault}
+use Rattle.roll_relay.specs.Turns.{after_turn, due, lessened}
+use Rattle.roll_relay.specs.declared.fault.HeldFault.{HeldFault}
+use Rattle.roll_relay.specs.declared.fault.HeldFault.TheVariants.{OtherSession, Session}
+use Rattle.roll_relay.specs.declared.held.Held.{Held}
 use Rattle.roll_inputs.specs.declared.remote_word.RemoteWord.{RemoteWord}
 use Rattle.roll_requests.specs.Made.{Keeps}
 use Rattle.roll_session.specs.Foretold.{guess_words_refusal_of, rerun_of, words_job_of, words_refusal_of}

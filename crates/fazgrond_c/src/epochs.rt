@@ -19,14 +19,13 @@ use crate::network::Network;
 use crate::open::Open;
 use crate::peer_kinds::{MATCH_SIZE, MatchIn};
 use crate::peer_refusal::{UNLIKE_DELAYS, code_of_opening};
-use roll_chain::{Chain, ticket_for};
+use roll_chain::{Chain, Epochs, ticket_for};
 use roll_epoch::Terms;
 use roll_frame::{Refusal, Settings};
 use roll_mesh::PLAYER_LIMIT;
 use roll_peer::{MatchSettings, OpenRefusal, Peer};
 use roll_relay::Relay;
 use roll_requests::Ended;
-use roll_seam::Epochs;
 use roll_session::Networked;
 use std::alloc::Global;
 

@@ -6,7 +6,7 @@ ghost use Rattle.fazgrond_c.specs.Kinds.{entry_out, no_row, request_out, row_out
 ghost use Rattle.fazgrond_c.specs.Waiting.{word_out};
 
 use roll_frame::{DELAY_LIMIT, PLAYER_LIMIT, Profile, Row, Settings};
-use roll_held::RemoteWord;
+use roll_relay::RemoteWord;
 use roll_requests::Request;
 use roll_session::{Call, Logged, Reached};
 

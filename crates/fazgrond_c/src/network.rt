@@ -2,13 +2,12 @@
 ghost use Rattle.std.specs.Prelude.{◌≡◌, ◌≤◌, take};
 ghost use Rattle.fazgrond_c.specs.Epochs.{epoch_turned};
 ghost use Rattle.fazgrond_c.specs.Waiting.{IsHeldFor};
-ghost use Rattle.roll_held.specs.declared.held.TheConstants.{TURN_LIMIT};
+ghost use Rattle.roll_relay.specs.declared.held.TheConstants.{TURN_LIMIT};
 
-use roll_held::{Held, RemoteWord};
+use roll_chain::Epochs;
 use roll_peer::Peer;
-use roll_relay::Relay;
+use roll_relay::{Held, Relay, RemoteWord};
 use roll_requests::Ended;
-use roll_seam::Epochs;
 
 /// The network of a match at one machine.
 #[derive(Drop)]

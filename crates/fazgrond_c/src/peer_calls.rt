@@ -2,7 +2,7 @@
 ghost use Rattle.std.specs.Prelude.{◌≡◌, ◌≢◌, ◌≤◌, ◌++◌, drop, length, pos};
 ghost use Rattle.fazgrond_c.specs.Handles.{Fills};
 ghost use Rattle.fazgrond_c.specs.Written.{code_of_receipt, AreSent};
-ghost use Rattle.roll_held.specs.Relayed.{bytes_of};
+ghost use Rattle.roll_relay.specs.Relayed.{bytes_of};
 ghost use Rattle.fazgrond_c.specs.Peers.{code_of_poll, stats_at, IsFarewell, IsNoted, IsNotedFor, IsPolledBeside, IsPolledFor, IsPutOutBy, IsReceived, IsReceivedIn, IsSentMore, IsSentTo, IsToldBy};
 
 use crate::calls::{NOTHING, TOO_SHORT};

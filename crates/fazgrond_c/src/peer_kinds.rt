@@ -3,9 +3,9 @@ ghost use Rattle.std.specs.Prelude.{◌≡◌, ◌≤◌, ℕ, IfNone, IfSome, s
 ghost use Rattle.fazgrond_c.specs.PeerKinds.{bare, event_out, field_out, stats_out, AreMatched, HasNoRoom};
 
 use roll_frame::PLAYER_LIMIT;
-use roll_held::TURN_LIMIT;
 use roll_mesh::MACHINE_LIMIT;
 use roll_peer::{Field, MatchSettings, PeerEvent, Stats};
+use roll_relay::TURN_LIMIT;
 
 /// How many bytes `MatchIn` takes.
 pub const MATCH_SIZE: u32 = 168;

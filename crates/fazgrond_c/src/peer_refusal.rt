@@ -4,13 +4,13 @@ ghost use Rattle.roll_mesh.specs.declared.limits.TheConstants.{PLAYER_LIMIT};
 ghost use Rattle.fazgrond_c.specs.PeerKinds.{are_within, code_of_ignored, code_of_join, code_of_joining, code_of_mark, code_of_mark_fault, code_of_mesh, code_of_open, code_of_opening, code_of_refusal, code_of_seam, code_of_seat, is_counted, is_within_at};
 ghost use Rattle.fazgrond_c.specs.Waiting.{code_of_fault};
 
+use roll_chain::SeamRefusal;
 use roll_epoch::MarkFault;
 use roll_frame::Refusal;
-use roll_held::HeldFault;
 use roll_member::JoinRefusal;
 use roll_mesh::{INPUT_LIMIT, MACHINE_LIMIT, MeshRefusal, PLAYER_LIMIT, Seat};
 use roll_peer::{Ignored, MarkRefusal, MatchSettings, OpenRefusal, PeerRefusal};
-use roll_seam::SeamRefusal;
+use roll_relay::HeldFault;
 
 /// Bytes aren't sealed for this match and opening.
 pub const NOT_SEALED: i32 = 301;

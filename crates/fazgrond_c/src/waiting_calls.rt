@@ -7,7 +7,7 @@ use crate::kinds::EntryOut;
 use crate::live::Live;
 use crate::network::Network;
 use crate::peer_refusal::code_of_fault;
-use roll_held::RemoteWord;
+use roll_relay::RemoteWord;
 
 /// Writes the words that wait to the front of a buffer, as many as there is room for, and says how many they are.
 pub fn list(network: &Network, out: &mut [EntryOut]) -> usize

@@ -9,3 +9,8 @@ pub mod Lasting
 pub mod LaterOn
 pub mod AnyTime
 pub mod OneNumber
+pub mod Played
+pub mod GoneOnElsewhere
+pub mod KnownRows
+pub mod Runs
+pub mod GoneOnHere

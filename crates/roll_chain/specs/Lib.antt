@@ -7,3 +7,11 @@ pub mod Sharing
 pub mod Lasting
 pub mod Together
 pub mod OneNumber
+pub mod Again
+pub mod Calls
+pub mod GoingOnElsewhere
+pub mod Pasts
+pub mod Epochs
+pub mod Known
+pub mod States
+pub mod GoingOnHere

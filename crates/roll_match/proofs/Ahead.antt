@@ -3,9 +3,9 @@ use Rattle.std.proofs.Common.{◌≡◌, ◌∙◌, ℕ, zero, suc, ◌<◌, Lis
 use Rattle.std.proofs.lemmas.Bool.{and_from, and_parts}
 use Rattle.roll_frame.specs.Core.{is_known}
 use Rattle.roll_frame.specs.Timeline.{timeline, Player}
-use Rattle.roll_held.proofs.Told.{played_told, told_stays}
-use Rattle.roll_held.specs.OneMatch.{HoldsBack}
-use Rattle.roll_held.specs.Told.{asked_words, told}
+use Rattle.roll_relay.proofs.Told.{played_told, told_stays}
+use Rattle.roll_relay.specs.OneMatch.{HoldsBack}
+use Rattle.roll_relay.specs.Told.{asked_words, told}
 use Rattle.roll_inputs.specs.declared.remote_word.RemoteWord.{RemoteWord}
 use Rattle.roll_laws.proofs.Ahead.{all_known_stays, known_row_stays, AllLater}
 use Rattle.roll_laws.proofs.Fronts.{Onward}

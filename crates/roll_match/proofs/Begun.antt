@@ -4,8 +4,8 @@ use Rattle.std.specs.Prelude.{if◌then◌else◌, is_none}
 use Rattle.roll_chain.specs.Judging.{is_void_by, judged_until}
 use Rattle.roll_chain.specs.Sharing.{heard_until, parted_until}
 use Rattle.roll_chain.specs.declared.chain.Chain.{Chain}
-use Rattle.roll_held.specs.Heard.{beside}
-use Rattle.roll_held.specs.Told.{as_told}
+use Rattle.roll_relay.specs.Heard.{beside}
+use Rattle.roll_relay.specs.Told.{as_told}
 use Rattle.roll_mesh.specs.Machines.{is_in, leave}
 use Rattle.roll_mesh.specs.Meshes.{leave_refusal, stepped}
 use Rattle.roll_mesh.specs.declared.limits.TheConstants.{MACHINE_LIMIT, PLAYER_LIMIT}
@@ -16,9 +16,9 @@ use Rattle.roll_peer.specs.PeerWorlds.{Disconnects, HearsToo, Polls, VoidsMark}
 use Rattle.roll_peer.specs.Peered.{Peered}
 use Rattle.roll_peer.specs.Requests.{Beside}
 use Rattle.roll_peer.specs.Turning.{without}
-use Rattle.roll_seam.specs.Epochs.{gone_in, judged_in, shared_by, shared_peer}
-use Rattle.roll_seam.specs.declared.epochs.Epochs.{Epochs}
-use Rattle.roll_seam.specs.declared.past.Past.{Past}
+use Rattle.roll_chain.specs.Epochs.{gone_in, judged_in, shared_by, shared_peer}
+use Rattle.roll_chain.specs.declared.epochs.Epochs.{Epochs}
+use Rattle.roll_chain.specs.declared.past.Past.{Past}
 use Rattle.roll_session.specs.Seen.{Seen, Step}
 use Rattle.roll_match.specs.Deeds.{WhatBeginsIsCalled}
 use Rattle.roll_match.proofs.Deeds.{both, none, Called}

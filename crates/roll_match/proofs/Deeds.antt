@@ -4,7 +4,7 @@ use Rattle.std.specs.Prelude.{◌==◌, if◌then◌else◌, Result, Ok, Err}
 use Rattle.roll_carry.specs.Carrying.{Carrying}
 use Rattle.roll_carry.specs.Spelling.{datagram_of, ParcelValue}
 use Rattle.roll_carry.specs.declared.limits.TheConstants.{CARRIED, MAP}
-use Rattle.roll_held.specs.Relayed.{SendsBy}
+use Rattle.roll_relay.specs.Relayed.{SendsBy}
 use Rattle.roll_member.specs.Beside.{IsOf}
 use Rattle.roll_mesh.proofs.Changes.{none_some, some_same}
 use Rattle.roll_peer.specs.PeerWorlds.{Deed, Does, Receives, Sends, SendsNone}

@@ -6,9 +6,9 @@ use Rattle.roll_chain.specs.declared.chain.Chain.{Chain}
 use Rattle.roll_epoch.specs.declared.marks.Ending.{Ending}
 use Rattle.roll_frame.specs.Paths.{run}
 use Rattle.roll_frame.specs.Timeline.{timeline}
-use Rattle.roll_held.proofs.OneMatch.{holders_are_one}
+use Rattle.roll_relay.proofs.OneMatch.{holders_are_one}
 use Rattle.roll_mesh.specs.Worlds.{Match}
-use Rattle.roll_onward.specs.States.{value_at}
+use Rattle.roll_chain.specs.States.{value_at}
 use Rattle.roll_peer.proofs.Alike.{two_peers_know_one}
 use Rattle.roll_peer.specs.Known.{IsKnownTo}
 use Rattle.roll_peer.specs.OneMatch.{AreOne}

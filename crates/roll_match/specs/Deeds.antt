@@ -2,9 +2,9 @@
 use Rattle.std.specs.Prelude.{◌≡◌, ℕ, List, [], ◌∷◌, Option, Some, None, Result, Ok, Err}
 use Rattle.roll_carry.specs.Carrying.{Carrying}
 use Rattle.roll_carry.specs.Spelling.{datagram_of, ParcelValue}
-use Rattle.roll_held.specs.Heard.{beside, PollsHeld}
-use Rattle.roll_held.specs.Relayed.{HearsBy, SendsBy}
-use Rattle.roll_held.specs.Told.{as_told}
+use Rattle.roll_relay.specs.Heard.{beside, PollsHeld}
+use Rattle.roll_relay.specs.Relayed.{HearsBy, SendsBy}
+use Rattle.roll_relay.specs.Told.{as_told}
 use Rattle.roll_inputs.specs.declared.remote_word.RemoteWord.{RemoteWord}
 use Rattle.roll_peer.specs.PeerWorlds.{sent_in, Deed, Does, IsGenuine}
 use Rattle.roll_peer.specs.Peered.{Peered}
@@ -16,8 +16,8 @@ use Rattle.roll_peer.specs.declared.refusal.PeerRefusal.{PeerRefusal}
 use Rattle.roll_relay.specs.Relaying.{Hears, HearsParcels, Relayed}
 use Rattle.roll_relay.specs.declared.heard.Heard.{Heard}
 use Rattle.roll_relay.specs.declared.heard.Heard.TheVariants.{Straight, Map, Carried}
-use Rattle.roll_seam.specs.Epochs.{judged_in, shared_peer}
-use Rattle.roll_seam.specs.declared.epochs.Epochs.{Epochs}
+use Rattle.roll_chain.specs.Epochs.{judged_in, shared_peer}
+use Rattle.roll_chain.specs.declared.epochs.Epochs.{Epochs}
 use Rattle.roll_session.specs.Seen.{Seen, Step}
 
 -- ---- what comes

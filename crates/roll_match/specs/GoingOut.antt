@@ -1,15 +1,15 @@
 -- What goes out of a match in a turn: datagrams, one after another, each to a machine.
 use Rattle.std.specs.Prelude.{◌≡◌, ◌⊎◌, ◌≤◌, ◌<◌, ℕ, zero, suc, ◌+◌, ◌/◌, ◌%◌, ◌==◌, ◌||◌, not, is_none, List, Bool, true, false, Option, Some, None, MatchOption, Result, Ok, Err}
-use Rattle.roll_held.specs.Relayed.{SendsBy}
-use Rattle.roll_held.specs.Told.{as_told, roomless, IsHeldFault}
-use Rattle.roll_held.specs.declared.fault.HeldFault.{HeldFault}
+use Rattle.roll_relay.specs.Relayed.{SendsBy}
+use Rattle.roll_relay.specs.Told.{as_told, roomless, IsHeldFault}
+use Rattle.roll_relay.specs.declared.fault.HeldFault.{HeldFault}
 use Rattle.roll_peer.specs.Peered.{contact_at}
 use Rattle.roll_peer.specs.Sending.{is_lost}
 use Rattle.roll_peer.specs.declared.refusal.OtherSession.{OtherSession}
 use Rattle.roll_carry.specs.Carrying.{Carrying}
 use Rattle.roll_contact.specs.Contacts.{is_playing}
 use Rattle.roll_relay.specs.Relaying.{IsNext, SaysBye}
-use Rattle.roll_seam.specs.Epochs.{IsNextBefore, SendsBefore}
+use Rattle.roll_chain.specs.Epochs.{IsNextBefore, SendsBefore}
 use Rattle.roll_session.specs.Seen.{Seen}
 use Rattle.roll_match.specs.declared.going_out.TheConstants.{PLACES}
 use Rattle.roll_match.specs.declared.one.Match.{Match}

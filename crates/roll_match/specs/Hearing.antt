@@ -1,13 +1,13 @@
 -- What a match makes of bytes that come.
 use Rattle.std.specs.Prelude.{◌≡◌, ℕ, List, Result, Ok, Err}
-use Rattle.roll_held.specs.Relayed.{relayed_beside, HearsHeldBy}
-use Rattle.roll_held.specs.Told.{IsHeldFault}
-use Rattle.roll_held.specs.declared.fault.HeldFault.{HeldFault}
+use Rattle.roll_relay.specs.Relayed.{relayed_beside, HearsHeldBy}
+use Rattle.roll_relay.specs.Told.{IsHeldFault}
+use Rattle.roll_relay.specs.declared.fault.HeldFault.{HeldFault}
 use Rattle.roll_peer.specs.declared.received.Ignored.{Ignored}
 use Rattle.roll_peer.specs.declared.received.Ignored.TheVariants.{NotSealed, NoDatagram, InvalidMachine, OwnMachine, MachineGone, OtherSession, Outside, Overstated}
 use Rattle.roll_relay.specs.Relaying.{Relayed}
 use Rattle.roll_relay.specs.declared.heard.Heard.{Heard}
-use Rattle.roll_seam.specs.Epochs.{HearsBefore}
+use Rattle.roll_chain.specs.Epochs.{HearsBefore}
 use Rattle.roll_session.specs.Seen.{Seen, Step}
 use Rattle.roll_match.specs.declared.one.Match.{Match}
 use Rattle.roll_match.specs.declared.unheard.Unheard.{Unheard}

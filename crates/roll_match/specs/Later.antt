@@ -8,7 +8,7 @@ use Rattle.roll_chain.specs.declared.chain.Chain.{Chain}
 use Rattle.roll_epoch.specs.declared.marks.Ending.{Ending}
 use Rattle.roll_frame.specs.Events.{CoreEvent}
 use Rattle.roll_mesh.specs.Worlds.{Match}
-use Rattle.roll_onward.specs.States.{value_at}
+use Rattle.roll_chain.specs.States.{value_at}
 use Rattle.roll_peer.specs.Known.{IsKnownTo}
 use Rattle.roll_peer.specs.PeerWorlds.{AreSteps, IsPlayedTo, PeerWorld}
 use Rattle.roll_peer.specs.Peered.{Peered}

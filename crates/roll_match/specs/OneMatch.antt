@@ -7,16 +7,16 @@ use Rattle.roll_chain.specs.Together.{IsJudgedTo}
 use Rattle.roll_chain.specs.declared.chain.Chain.{Chain}
 use Rattle.roll_epoch.specs.declared.marks.Ending.{Ending}
 use Rattle.roll_frame.specs.Core.{settled}
-use Rattle.roll_held.specs.OneMatch.{HoldsBack}
+use Rattle.roll_relay.specs.OneMatch.{HoldsBack}
 use Rattle.roll_inputs.specs.declared.remote_word.RemoteWord.{RemoteWord}
 use Rattle.roll_mesh.specs.Worlds.{Match}
-use Rattle.roll_onward.specs.GoingOn.{HasGoneOn}
-use Rattle.roll_onward.specs.States.{value_at}
+use Rattle.roll_chain.specs.GoingOnHere.{HasGoneOn}
+use Rattle.roll_chain.specs.States.{value_at}
 use Rattle.roll_peer.specs.Known.{IsKnownTo}
 use Rattle.roll_peer.specs.OneMatch.{AreAlike, AreOne, IsHere, IsMachine}
 use Rattle.roll_peer.specs.Peered.{Peered}
 use Rattle.roll_peer.specs.Requests.{Beside}
-use Rattle.roll_seam.specs.declared.epochs.Epochs.{Epochs}
+use Rattle.roll_chain.specs.declared.epochs.Epochs.{Epochs}
 use Rattle.roll_session.specs.Seen.{Seen, Step}
 use Rattle.roll_match.specs.Epochs.{ArePlayedTo, Epochs as AllEpochs}
 

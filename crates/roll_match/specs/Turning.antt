@@ -3,21 +3,21 @@ use Rattle.std.specs.Prelude.{◌≡◌, ◌⊎◌, ℕ, [], is_some, Bool, true
 use Rattle.roll_carry.specs.Carrying.{turned, Carrying}
 use Rattle.roll_chain.specs.Judging.{IsOver}
 use Rattle.roll_epoch.specs.declared.marks.Ending.{Ending}
-use Rattle.roll_held.specs.Heard.{beside, PollsHeld}
-use Rattle.roll_held.specs.Passing.{due_then, Does, Turn}
-use Rattle.roll_held.specs.Told.{roomless, told, IsHeldFault}
-use Rattle.roll_held.specs.Waits.{Waits}
-use Rattle.roll_held.specs.declared.fault.HeldFault.{HeldFault}
-use Rattle.roll_onward.specs.GoingOn.{IsWhyNotGone as IsWhyNotOnward}
-use Rattle.roll_onward.specs.declared.refusal.OnwardRefusal.{OnwardRefusal}
+use Rattle.roll_relay.specs.Heard.{beside, PollsHeld}
+use Rattle.roll_relay.specs.Passing.{due_then, Does, Turn}
+use Rattle.roll_relay.specs.Told.{roomless, told, IsHeldFault}
+use Rattle.roll_relay.specs.Waits.{Waits}
+use Rattle.roll_relay.specs.declared.fault.HeldFault.{HeldFault}
+use Rattle.roll_chain.specs.GoingOnHere.{IsWhyNotGone as IsWhyNotOnward}
+use Rattle.roll_chain.specs.declared.onward_refusal.OnwardRefusal.{OnwardRefusal}
 use Rattle.roll_peer.specs.Peered.{Peered}
 use Rattle.roll_peer.specs.Receiving.{moment_of}
 use Rattle.roll_peer.specs.declared.refusal.PeerRefusal.{PeerRefusal}
 use Rattle.roll_requests.specs.Asked.{Asked}
 use Rattle.roll_requests.specs.Ended.{Ended}
-use Rattle.roll_seam.specs.Epochs.{judged_in, shared_peer, turned_in, HasNotGoneOn}
-use Rattle.roll_seam.specs.declared.epochs.Epochs.{Epochs}
-use Rattle.roll_seam.specs.declared.refusal.SeamRefusal.{SeamRefusal}
+use Rattle.roll_chain.specs.Epochs.{judged_in, shared_peer, turned_in, HasNotGoneOn}
+use Rattle.roll_chain.specs.declared.epochs.Epochs.{Epochs}
+use Rattle.roll_chain.specs.declared.seam_refusal.SeamRefusal.{SeamRefusal}
 use Rattle.roll_session.specs.Seen.{Seen, Step}
 use Rattle.roll_match.specs.declared.one.Match.{Match}
 

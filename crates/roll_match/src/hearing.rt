@@ -1,13 +1,12 @@
 //! What comes by the network.
-ghost use Rattle.roll_held.specs.Waits.{Waits};
+ghost use Rattle.roll_relay.specs.Waits.{Waits};
 ghost use Rattle.roll_match.specs.Hearing.{Hears, HearsEarlier, HearsHere};
 
 use crate::lasting::Lasting;
 use crate::one::Match;
 use crate::unheard::Unheard;
-use roll_held::HeldFault;
 use roll_peer::Ignored;
-use roll_relay::Heard;
+use roll_relay::{Heard, HeldFault};
 
 impl<S: Lasting> Match<S> {
     /// Hears a datagram that came by the network, at a moment: `now` is this machine's clock in milliseconds, which may wrap round. Give

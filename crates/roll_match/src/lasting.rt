@@ -1,14 +1,13 @@
 //! Sessions beside which a match goes on in epochs.
 ghost use Rattle.std.specs.Prelude.{◌≡◌, IfOk, OnErr};
 ghost use Rattle.roll_match.specs.Turning.{GoesOnOrNot};
-ghost use Rattle.roll_seam.specs.Epochs.{judged_in};
+ghost use Rattle.roll_chain.specs.Epochs.{judged_in};
 
+use roll_chain::{Epochs, OnwardFault};
 use roll_game::Game;
-use roll_onward::OnwardFault;
 use roll_peer::Peer;
 use roll_relay::Relay;
 use roll_requests::{Closing, Elsewhere, Ended};
-use roll_seam::Epochs;
 use roll_session::{Networked, Session, Settling};
 use std::alloc::Global;
 
@@ -16,7 +15,7 @@ use std::alloc::Global;
 pub trait Lasting: Settling {
     ghost use Rattle.roll_carry.specs.Carrying.{Carrying};
     ghost use Rattle.roll_peer.specs.Peered.{Peered};
-    ghost use Rattle.roll_seam.specs.declared.epochs.Epochs.{Epochs};
+    ghost use Rattle.roll_chain.specs.declared.epochs.Epochs.{Epochs};
 
     /// What it is in the epoch before.
     type Past: Networked + Drop;
@@ -58,7 +57,7 @@ pub trait Lasting: Settling {
 
 impl<G: Game + Drop> Lasting for Session<G> {
     ghost use Rattle.roll_match.specs.Turning.{StaysHere};
-    ghost use Rattle.roll_onward.specs.GoingOn.{HasGoneOn};
+    ghost use Rattle.roll_chain.specs.GoingOnHere.{HasGoneOn};
 
     type Past = Session<G>;
 
@@ -79,7 +78,7 @@ impl<G: Game + Drop> Lasting for Session<G> {
         relay: &mut Relay,
         engine: G,
     ) -> Result<(), G> {
-        match roll_onward::go_on(alloc, epochs, engine, peer, relay, self) {
+        match roll_chain::go_on(alloc, epochs, engine, peer, relay, self) {
             Ok(()) => Ok(()),
             Err(OnwardFault { game, .. }) => Err(game),
         }
@@ -88,7 +87,7 @@ impl<G: Game + Drop> Lasting for Session<G> {
 
 impl Lasting for Elsewhere {
     ghost use Rattle.roll_match.specs.Turning.{StaysElsewhere};
-    ghost use Rattle.roll_seam.specs.Epochs.{HasGoneOn};
+    ghost use Rattle.roll_chain.specs.Epochs.{HasGoneOn};
 
     type Past = Ended;
 

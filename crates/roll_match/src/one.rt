@@ -1,9 +1,8 @@
 //! A match at one machine.
 use crate::lasting::Lasting;
-use roll_held::Held;
+use roll_chain::Epochs;
 use roll_peer::Peer;
-use roll_relay::Relay;
-use roll_seam::Epochs;
+use roll_relay::{Held, Relay};
 
 /// A match of 2 to 8 machines, as one of them plays it over a network. It has no game, no socket and no thread: it makes datagrams, and
 /// takes those that come. The session stands beside it, and each call that needs the session is lent it: lend always the same one.

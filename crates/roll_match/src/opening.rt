@@ -1,17 +1,15 @@
 //! A match begins.
 ghost use Rattle.std.specs.Prelude.{◌≡◌, ◌≤◌, [], IfErr, IfOk};
-ghost use Rattle.roll_held.specs.declared.held.TheConstants.{TURN_LIMIT};
+ghost use Rattle.roll_relay.specs.declared.held.TheConstants.{TURN_LIMIT};
 ghost use Rattle.roll_match.specs.Opening.{IsOpened, IsOpenedIn, IsWhyClosed};
 ghost use Rattle.roll_peer.specs.Peered.{IsWhyNot};
 
 use crate::going_out::PLACES;
 use crate::lasting::Lasting;
 use crate::one::Match;
-use roll_chain::Chain;
-use roll_held::Held;
+use roll_chain::{Chain, Epochs};
 use roll_peer::{MatchSettings, OpenRefusal, Peer};
-use roll_relay::Relay;
-use roll_seam::Epochs;
+use roll_relay::{Held, Relay};
 use std::alloc::Global;
 
 impl<S: Lasting> Match<S> {

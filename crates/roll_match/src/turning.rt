@@ -4,8 +4,8 @@ ghost use Rattle.roll_match.specs.Turning.{Begins, Closes, Ends, GoesOver, Tells
 
 use crate::lasting::{Lasting, go_on_with};
 use crate::one::Match;
-use roll_held::HeldFault;
 use roll_peer::PeerRefusal;
+use roll_relay::HeldFault;
 use std::alloc::Global;
 
 /// What a turn has done.

@@ -1,7 +1,7 @@
 //! Why a call of a match isn't carried out.
 use roll_epoch::MarkFault;
-use roll_held::HeldFault;
 use roll_peer::{Ignored, MarkRefusal};
+use roll_relay::HeldFault;
 use thiserror::Error;
 
 /// Why a match doesn't hear bytes that came by the network.

@@ -3,7 +3,7 @@ use Rattle.std.specs.Prelude.{FitsSigned, pos}
 use Rattle.std.proofs.Common.{of_z, to_z}
 use Rattle.std.proofs.lemmas.Int.{to_z-of_z}
 use Rattle.roll_requests.specs.Ended.{Ended}
-use Rattle.roll_seam.specs.declared.epochs.Epochs.{Epochs}
+use Rattle.roll_chain.specs.declared.epochs.Epochs.{Epochs}
 use Rattle.fazgrond_c.specs.Epochs.{IsHeardBefore}
 use Rattle.fazgrond_c.proofs.peer_calls.receive.Goals as goal
 

@@ -1,7 +1,7 @@
 use Rattle.std.proofs.Common.{rules, w32, Ok, Err, ap, refl}
 use Rattle.std.specs.Prelude.{FitsSigned}
 use Rattle.std.proofs.lemmas.Int.{to_z-of_z}
-use Rattle.roll_held.specs.Relayed.{bytes_of}
+use Rattle.roll_relay.specs.Relayed.{bytes_of}
 use Rattle.roll_requests.specs.Asked.{Asked}
 use Rattle.fazgrond_c.proofs.peer_calls.send_now.Goals as goal
 

@@ -1,12 +1,12 @@
 use Rattle.std.proofs.Common.{◌≡◌, ◌∙◌, ℕ, subst, Ok, Err}
 use Rattle.std.specs.Prelude.{IfErr, IfOk, OnErr, Result}
-use Rattle.roll_held.specs.Heard.{beside, PollsHeld}
-use Rattle.roll_held.specs.Told.{IsHeldFault}
-use Rattle.roll_held.specs.declared.fault.HeldFault.{HeldFault}
-use Rattle.roll_held.specs.declared.held.Held.{Held}
+use Rattle.roll_relay.specs.Heard.{beside, PollsHeld}
+use Rattle.roll_relay.specs.Told.{IsHeldFault}
+use Rattle.roll_relay.specs.declared.fault.HeldFault.{HeldFault}
+use Rattle.roll_relay.specs.declared.held.Held.{Held}
 use Rattle.roll_peer.specs.Peered.{Peered}
 use Rattle.roll_peer.specs.declared.refusal.PeerRefusal.{PeerRefusal}
-use Rattle.roll_seam.specs.declared.epochs.Epochs.{Epochs}
+use Rattle.roll_chain.specs.declared.epochs.Epochs.{Epochs}
 use Rattle.roll_session.specs.Seen.{Seen}
 use Rattle.roll_match.specs.Turning.{shared, PollsHere}
 use Rattle.roll_match.specs.declared.one.Match.{Match}

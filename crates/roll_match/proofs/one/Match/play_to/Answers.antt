@@ -1,7 +1,7 @@
 use Rattle.std.proofs.Common.{ℕ, List, ap, refl, sym, Option, Ok, Err}
 use Rattle.std.specs.Prelude.{Result}
 use Rattle.arrayvec.specs.declared.array_vec.ArrayVec.{ArrayVec}
-use Rattle.roll_held.specs.Relayed.{bytes_of}
+use Rattle.roll_relay.specs.Relayed.{bytes_of}
 use Rattle.roll_peer.specs.declared.refusal.OtherSession.{OtherSession}
 use Rattle.roll_match.specs.GoingOut.{sent_of}
 use Rattle.roll_match.proofs.one.Match.play_to.Goals as goal

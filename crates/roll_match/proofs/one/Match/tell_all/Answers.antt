@@ -1,6 +1,6 @@
 use Rattle.std.proofs.Common.{◌≡◌, ◌≤◌, ◌∙◌, ℕ, List, length, ap, refl, arith}
 use Rattle.std.proofs.lemmas.List.{drop_all, take_all}
-use Rattle.roll_held.specs.Told.{roomless, told}
+use Rattle.roll_relay.specs.Told.{roomless, told}
 use Rattle.roll_inputs.specs.declared.remote_word.RemoteWord.{RemoteWord}
 use Rattle.roll_match.proofs.one.Match.tell_all.Goals as goal
 

@@ -1,6 +1,0 @@
-use Rattle.std.proofs.Common.{take}
-use Rattle.roll_held.proofs.Fronts.{counts, IsLeast}
-use Rattle.roll_held.proofs.front.front.Given as goal
-
-abbrev pub invariant-loop-place : goal.invariant-loop-place
-invariant-loop-place g l = IsLeast l.least (counts (take l.place (g.S.Networked.seen l.session).core.players))

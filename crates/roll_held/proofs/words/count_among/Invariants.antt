@@ -1,7 +1,0 @@
-use Rattle.std.proofs.Common.{◌≡◌, ◌≤◌, length, take}
-use Rattle.roll_held.specs.Told.{words_among}
-use Rattle.roll_held.proofs.words.count_among.Given as goal
-
-abbrev pub invariant-loop-word : goal.invariant-loop-word
-invariant-loop-word l =
-    (l.count ≡ length (words_among (take l.word-index l.words) l.player)) × (l.count ≤ l.word-index)

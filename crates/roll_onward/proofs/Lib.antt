@@ -1,3 +1,0 @@
-pub mod KnownRows
-pub mod Runs
-pub mod Onward

@@ -1,5 +1,0 @@
-use Rattle.roll_onward.proofs.KnownRows.{AreCells}
-use Rattle.roll_onward.proofs.known.known_row.Given as goal
-
-abbrev pub invariant-loop-place : goal.invariant-loop-place
-invariant-loop-place g l = AreCells (g.S.Networked.seen l.session).core.players l.frame l.place l.row
