@@ -1,5 +1,5 @@
 //! What both machines of the match have alike.
-use fazgrond::holding::HeldFault;
+use fazgrond::relaying::HeldFault;
 use fazgrond::{MatchSettings, OpenRefusal, OtherSession, PeerRefusal, Refusal, Session, Settings};
 use game_fighter::{Fight, State};
 use std::alloc::{AllocError, Global};

@@ -5,8 +5,7 @@ ghost use Rattle.fazgrond.specs.Hosted.{places_of};
 
 use crate::machine::{Fault, LAST_FRAME, MOST, buttons, digest, moment, the_match};
 use crate::wire::Wire;
-use fazgrond::holding::{Held, HeldFault, RemoteWord};
-use fazgrond::relaying::Relay;
+use fazgrond::relaying::{Held, HeldFault, Relay, RemoteWord};
 use fazgrond::{Feed, Habits, Host, Peer, PeerEvent, Refusal, Session, Spectator, ends_in_roll};
 use game_fighter::{Fight, State};
 use std::alloc::Global;
