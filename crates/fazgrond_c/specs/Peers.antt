@@ -1,12 +1,12 @@
 -- What a call of a peer through a handle comes to.
-use Rattle.std.specs.Prelude.{◌≡◌, ◌≢◌, ◌⊎◌, ℕ, ℤ, pos, List, [], slice_get, not, true, Bool, nat_lt, ◌&&◌, ◌||◌, is_none, Option, Some, None, IfNone, IfSome, IsSome, MatchOption, Result, Ok, Err, IfErr, IfOk, OnErr, OnOk, if◌then◌else◌}
+use Rattle.std.specs.Prelude.{◌≡◌, ◌≢◌, ◌⊎◌, ℕ, ℤ, pos, List, [], slice_get, not, true, Bool, nat_lt, ◌&&◌, ◌||◌, is_none, length, Option, Some, None, IfNone, IfSome, IsSome, MatchOption, Result, Ok, Err, IfErr, IfOk, OnErr, OnOk, if◌then◌else◌}
 use Rattle.std.specs.Option.{option_map}
 use Rattle.roll_carry.specs.Carrying.{turned}
 use Rattle.roll_contact.specs.Contacts.{is_playing}
 use Rattle.roll_frame.specs.Core.{settled}
 use Rattle.roll_relay.specs.Heard.{beside, PollsHeld}
 use Rattle.roll_relay.specs.Relayed.{relayed_beside, HearsHeldBy, SendsBy}
-use Rattle.roll_relay.specs.Told.{as_told, roomless, IsHeldFault}
+use Rattle.roll_relay.specs.Told.{as_told, roomier, IsHeldFault}
 use Rattle.roll_relay.specs.Waits.{Waits}
 use Rattle.roll_relay.specs.declared.fault.HeldFault.{HeldFault}
 use Rattle.roll_relay.specs.declared.held.Held.{Held}
@@ -96,6 +96,7 @@ pub record IsReceived (bytes : List ℕ) (now : ℕ) (old new : Network) (before
   pub heard : IfOk result (HearsHeldBy still now (relayed_beside before.session.seen old.held.words.items old.peer old.relay)
       (relayed_beside after.session.seen new.held.words.items new.peer new.relay) bytes)
   pub waits : Waits before.session.seen after.session.seen old.held new.held
+  pub ignored : IfOk result (λ said. OnErr said ((new.held ≡ old.held) × (old.held.words.items ≡ [] → after.session ≡ before.session)))
   pub refused : IfErr result (IsHeldFault before.session.seen old.held.words.items)
   pub unchanged : OnErr result ((new.held ≡ old.held) × ((after ≡ before) × ((new.peer ≡ old.peer) × (new.relay ≡ old.relay))))
   pub rest : after ≡ record before { session = after.session }
@@ -170,7 +171,7 @@ pub record IsSentTo (machine now : ℕ) (old new : Network × Live) (before wrot
   pub unchanged : IfErr result (λ why. IsNothing (code_of_fault why) old new before wrote had size code)
   pub held : new.0.held ≡ old.0.held
   pub epochs : new.0.epochs ≡ old.0.epochs
-  pub room : roomless new.1.session.seen ≡ roomless old.1.session.seen
+  pub room : OnOk result (new.1.session.seen ≡ roomier (length old.0.held.words.items) old.1.session.seen)
   pub untouched : old.0.held.words.items ≡ [] → new.1 ≡ old.1
   pub rest : new.1 ≡ record old.1 { session = new.1.session }
   pub keeps : Keeps old.1.session new.1.session

@@ -3,7 +3,7 @@ use Rattle.std.specs.Prelude.{◌≡◌, ℕ, ℤ, pos, List, [], ◌++◌, drop
 use Rattle.roll_frame.specs.Codes.{code_of}
 use Rattle.roll_frame.specs.declared.entry.Entry.TheVariants.{Remote}
 use Rattle.roll_relay.specs.Pressed.{is_pressed}
-use Rattle.roll_relay.specs.Told.{are_next, roomless, told, IsHeldFault}
+use Rattle.roll_relay.specs.Told.{are_next, roomier, told, IsHeldFault}
 use Rattle.roll_relay.specs.Turns.{after_turn, due, lessened}
 use Rattle.roll_relay.specs.declared.fault.HeldFault.{HeldFault}
 use Rattle.roll_relay.specs.declared.fault.HeldFault.TheVariants.{OtherSession, Session}
@@ -78,8 +78,8 @@ IsForetold until old new before after had wrote code =
 -- a session is told the first so many words that wait, and the others go on waiting; or nothing is changed
 pub record AreToldFirst (count : ℕ) (old new : Held) (before after : Live) (code : ℤ) : Type 0 where
   pub result : Result Unit HeldFault
-  pub handed : OnOk result (roomless after.session.seen
-      ≡ roomless (told before.session.seen (take count old.words.items)))
+  pub handed : OnOk result (after.session.seen
+      ≡ told (roomier (length old.words.items) before.session.seen) (take count old.words.items))
   pub left : OnOk result (new.words.items ≡ drop count old.words.items)
   pub waited : OnOk result (new.waited.items ≡ lessened (min count (length old.words.items)) old.waited.items)
   pub accepted : OnOk result (are_next before.session.seen old.words.items ≡ true)
@@ -104,8 +104,8 @@ pub record AreToldDue (old new : Held) (before after : Live) (had wrote : ℕ) (
   pub result : Result ℕ HeldFault
   pub are_due : IfOk result (λ count. count ≡ min (length old.words.items)
       (due old.turns (after_turn (length old.words.items) old.waited.items)))
-  pub handed : IfOk result (λ count. roomless after.session.seen
-      ≡ roomless (told before.session.seen (take count old.words.items)))
+  pub handed : IfOk result (λ count. after.session.seen
+      ≡ told (roomier (length old.words.items) before.session.seen) (take count old.words.items))
   pub left : IfOk result (λ count. new.words.items ≡ drop count old.words.items)
   pub waited : IfOk result (λ count. new.waited.items
       ≡ lessened count (after_turn (length old.words.items) old.waited.items))

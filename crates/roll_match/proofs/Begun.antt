@@ -4,7 +4,6 @@ use Rattle.std.specs.Prelude.{if◌then◌else◌, is_none}
 use Rattle.roll_chain.specs.Judging.{is_void_by, judged_until}
 use Rattle.roll_chain.specs.Sharing.{heard_until, parted_until}
 use Rattle.roll_chain.specs.declared.chain.Chain.{Chain}
-use Rattle.roll_relay.specs.Heard.{beside}
 use Rattle.roll_relay.specs.Told.{as_told}
 use Rattle.roll_mesh.specs.Machines.{is_in, leave}
 use Rattle.roll_mesh.specs.Meshes.{leave_refusal, stepped}
@@ -97,6 +96,6 @@ what_begins_is_called P step sent now epochs peer next s after words held said p
     let last : Beside = record { session = as_told after held polls.room; peer = next } in
     let first = more step sent now here peer (shared_peer epochs peer) (judged_in epochs (shared_peer epochs peer))
     (shared step sent now here epochs.past epochs peer) (judged step sent now here epochs.chain (shared_peer epochs peer) PLAYER_LIMIT) in
-    let all = both step sent now (beside s words peer) (beside s words (judged_in epochs (shared_peer epochs peer))) last first.0 first.1
+    let all = both step sent now (so step sent now here peer) (so step sent now here (judged_in epochs (shared_peer epochs peer))) last first.0 first.1
     (Polls now said ∷ [], (last, polls.polls, refl)) in
     (polls.room, all.0, all.1)

@@ -67,7 +67,7 @@ WhatBeginsIsCalled P =
     (said : Result Unit PeerRefusal)
     → PollsHeld (beside s words (judged_in epochs (shared_peer epochs peer))) (beside after held next) now said
     → (room : ℕ) × (deeds : List Deed)
-    × AreDeeds step sent (beside s words peer) deeds (record { session = as_told after held room; peer = next })
+    × AreDeeds step sent (record { session = as_told s words 0; peer = peer }) deeds (record { session = as_told after held room; peer = next })
 
 -- ---- what goes
 

@@ -1,7 +1,7 @@
 -- What goes out of a match in a turn: datagrams, one after another, each to a machine.
-use Rattle.std.specs.Prelude.{◌≡◌, ◌⊎◌, ◌≤◌, ◌<◌, ℕ, zero, suc, ◌+◌, ◌/◌, ◌%◌, ◌==◌, ◌||◌, not, is_none, List, Bool, true, false, Option, Some, None, MatchOption, Result, Ok, Err}
+use Rattle.std.specs.Prelude.{◌≡◌, ◌⊎◌, ◌≤◌, ◌<◌, ℕ, zero, suc, ◌+◌, ◌/◌, ◌%◌, ◌==◌, ◌||◌, not, is_none, length, List, Bool, true, false, Option, Some, None, MatchOption, Result, Ok, Err}
 use Rattle.roll_relay.specs.Relayed.{SendsBy}
-use Rattle.roll_relay.specs.Told.{as_told, roomless, IsHeldFault}
+use Rattle.roll_relay.specs.Told.{as_told, roomier, IsHeldFault}
 use Rattle.roll_relay.specs.declared.fault.HeldFault.{HeldFault}
 use Rattle.roll_peer.specs.Peered.{contact_at}
 use Rattle.roll_peer.specs.Sending.{is_lost}
@@ -29,7 +29,7 @@ module _ {S P E L : Type 0} where
       → Result (Result (Option (List ℕ)) OtherSession) HeldFault → Type 0
   Gives machine before after old new (Ok said) =
       SendsBy (as_told before old.held.words.items 0) old.moment machine old.peer new.peer old.relay new.relay said
-      × (new ≡ record old { peer = new.peer; relay = new.relay }) × (roomless after ≡ roomless before)
+      × (new ≡ record old { peer = new.peer; relay = new.relay }) × (after ≡ roomier (length old.held.words.items) before)
   Gives machine before after old new (Err why) =
       IsHeldFault before old.held.words.items why × (new ≡ old) × (after ≡ before)
 

@@ -1,11 +1,11 @@
 -- What the start of a turn makes of a match, and of a session of any kind.
-use Rattle.std.specs.Prelude.{◌≡◌, ◌⊎◌, ℕ, [], is_some, Bool, true, false, Option, Some, None, Result, Ok, Err}
+use Rattle.std.specs.Prelude.{◌≡◌, ◌⊎◌, ℕ, [], is_some, length, Bool, true, false, Option, Some, None, Result, Ok, Err}
 use Rattle.roll_carry.specs.Carrying.{turned, Carrying}
 use Rattle.roll_chain.specs.Judging.{IsOver}
 use Rattle.roll_epoch.specs.declared.marks.Ending.{Ending}
 use Rattle.roll_relay.specs.Heard.{beside, PollsHeld}
 use Rattle.roll_relay.specs.Passing.{due_then, Does, Turn}
-use Rattle.roll_relay.specs.Told.{roomless, told, IsHeldFault}
+use Rattle.roll_relay.specs.Told.{roomier, told, IsHeldFault}
 use Rattle.roll_relay.specs.Waits.{Waits}
 use Rattle.roll_relay.specs.declared.fault.HeldFault.{HeldFault}
 use Rattle.roll_chain.specs.GoingOnHere.{IsWhyNotGone as IsWhyNotOnward}
@@ -91,7 +91,7 @@ module _ {S P E L : Type 0} where
   -- the session is told all that waits, or there is no room for it
   abbrev pub TellsAll : (seen : S → Seen) → (before after : S) → (old new : Match S P E L) → Result Unit HeldFault → Type 0
   TellsAll seen before after old new (Ok done) =
-      (roomless (seen after) ≡ roomless (told (seen before) old.held.words.items))
+      (seen after ≡ told (roomier (length old.held.words.items) (seen before)) old.held.words.items)
       × (new.held.words.items ≡ []) × (new.held.turns ≡ old.held.turns) × (new ≡ record old { held = new.held })
   TellsAll seen before after old new (Err why) = IsHeldFault (seen before) old.held.words.items why × (after ≡ before) × (new ≡ old)
 

@@ -10,7 +10,8 @@ use Rattle.roll_peer.specs.Turning.{IsPolled}
 use Rattle.roll_peer.specs.declared.refusal.PeerRefusal.{PeerRefusal}
 use Rattle.roll_session.specs.Seen.{Seen}
 use Rattle.roll_relay.specs.Heard.{beside, PollsHeld}
-use Rattle.roll_relay.specs.Told.{after_word, as_told, roomless, Fits}
+use Rattle.roll_relay.specs.Rooms.{HasRoom}
+use Rattle.roll_relay.specs.Told.{after_word, as_told, roomless, told, Fits}
 use Rattle.roll_relay.proofs.Told.{as_told_same, first_takes, takes_first}
 
 -- the first of words that fit do
@@ -34,10 +35,11 @@ module _ (s later new : Seen) (words held : List RemoteWord) (room : ℕ) (same 
   pub before_is : as_told later words 0 ≡ as_told s words 0
   before_is = as_told_same later s words words 0 0 same refl refl
 
-  pub polls_held : (peer next : Peered) (now : ℕ) (said : Result Unit PeerRefusal)
+  pub polls_held : (peer next : Peered) (now : ℕ) (said : Result Unit PeerRefusal) → HasRoom (told s words) (told new held) room
       → IsPolled (as_told later words 0) (as_told new held room) (ticking now peer) next said
       → PollsHeld (beside s words peer) (beside new held next) now said
-  polls_held peer next now said polled = record {
+  polls_held peer next now said has polled = record {
     room = room;
+    has_room = has;
     polls = subst (λ (x : Seen). IsPolled x (as_told new held room) (ticking now peer) next said) before_is polled;
   }

@@ -12,17 +12,20 @@ use Rattle.roll_relay.specs.declared.heard.Heard.{Heard}
 use Rattle.roll_session.specs.Seen.{Seen, Step}
 use Rattle.roll_relay.proofs.Ahead.{before_is}
 use Rattle.roll_relay.specs.Relayed.{bytes_of, relayed, relayed_beside, HearsBy, HearsHeldBy, SendsBy}
-use Rattle.roll_relay.specs.Told.{as_told, roomless}
+use Rattle.roll_relay.specs.Rooms.{HasRoom}
+use Rattle.roll_relay.specs.Told.{as_told, roomless, told}
 
 module _ (s later new : Seen) (words held : List RemoteWord) (room : ℕ) (same : roomless later ≡ roomless s) where
   pub hears_held_by : (step : Step) (peer next : Peered) (here there : Carrying) (now : ℕ) (bytes : List ℕ) (said : Result Heard Ignored)
+      → HasRoom (told s words) (told new held) room
       → IfOk said (Hears step now (relayed (as_told later words 0) peer here) (relayed (as_told new held room) next there) bytes)
       → IfOk said (λ heard. is_said (taken_kind here bytes) heard ≡ true)
       → IfErr said (IsUnheard step now (taken_kind here bytes) (relayed (as_told later words 0) peer here).beside (relayed (as_told new held room) next there).beside bytes)
       → OnErr said (there ≡ here)
       → HearsHeldBy step now (relayed_beside s words peer here) (relayed_beside new held next there) bytes said
-  hears_held_by step peer next here there now bytes said heard kind ignored unchanged = record {
+  hears_held_by step peer next here there now bytes said has heard kind ignored unchanged = record {
     room = room;
+    has_room = has;
     hears = subst (λ (x : Seen). HearsBy step now (relayed x peer here) (relayed (as_told new held room) next there) bytes said)
         (before_is s later new words held room same)
         (record { heard = heard; kind = kind; ignored = ignored; unchanged = unchanged });

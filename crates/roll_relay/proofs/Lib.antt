@@ -1,3 +1,4 @@
+pub mod Rooms
 pub mod Told
 pub mod Seeing
 pub mod Same

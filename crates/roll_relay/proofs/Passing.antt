@@ -10,6 +10,7 @@ use Rattle.roll_frame.specs.declared.entry.Entry.TheVariants.{Remote}
 use Rattle.roll_inputs.specs.declared.remote_word.RemoteWord.{RemoteWord}
 use Rattle.roll_session.specs.Seen.{Seen}
 use Rattle.roll_relay.specs.Passing.{due_then, is_turn, waited_then, AreDone, Deed, Does, HandsOver, Moment, NoWordWaitsLonger, Hand, Other, Turn}
+use Rattle.roll_relay.specs.Told.{roomier}
 use Rattle.roll_relay.specs.Turns.{lessened}
 use Rattle.roll_relay.specs.Waits.{AreTold, StillWait, WasTold}
 use Rattle.roll_relay.proofs.Waiting.{log_stays, words_told}
@@ -69,7 +70,7 @@ hands_log : (count : ℕ) (waited : List ℕ) (a b : Moment) → HandsOver count
     → Contains a.seen.log entry → Contains b.seen.log entry
 hands_log count waited a b it entry there =
     subst (λ (log : List Entry). Contains log entry) (sym (ap (λ (s : Seen). s.log) it.told_are))
-    (log_stays a.seen (take count a.held.words.items) entry there)
+    (log_stays (roomier (length a.held.words.items) a.seen) (take count a.held.words.items) entry there)
 
 keeps : (deed : Deed) (a b : Moment) → Does deed a b → (entry : Entry) → Contains a.seen.log entry → Contains b.seen.log entry
 keeps Turn a b it entry there = hands_log (due_then a.held) (waited_then a.held) a b it entry there
@@ -109,7 +110,7 @@ module _ (first : List RemoteWord) where
           → WasTold b.seen w ⊎ Contains (take (n - c) b.held.words.items) w
       sooner (inl front) =
           inl (subst (λ (log : List Entry). Contains log (Remote w.player w.frame w.word)) (sym (ap (λ (s : Seen). s.log) it.told_are))
-          (words_told a.seen (take c a.held.words.items) w front))
+          (words_told (roomier (length a.held.words.items) a.seen) (take c a.held.words.items) w front))
       sooner (inr behind) =
           inr (subst (λ (ws : List RemoteWord). Contains (take (n - c) ws) w) (sym it.rest) behind)
 

@@ -7,13 +7,15 @@ use Rattle.roll_peer.specs.Requests.{Beside}
 use Rattle.roll_peer.specs.Turning.{IsPolled}
 use Rattle.roll_peer.specs.declared.refusal.PeerRefusal.{PeerRefusal}
 use Rattle.roll_session.specs.Seen.{Seen}
-use Rattle.roll_relay.specs.Told.{as_told}
+use Rattle.roll_relay.specs.Rooms.{HasRoom}
+use Rattle.roll_relay.specs.Told.{roomless, told, with_room}
 
 -- so is what the network has beside it
 abbrev pub beside : Seen → List RemoteWord → Peered → Beside
-beside s words peer = record { session = as_told s words 0; peer = peer }
+beside s words peer = record { session = told s words; peer = peer }
 
--- a poll
+-- a poll, which asks for room as beside a session that has none
 pub record PollsHeld (old new : Beside) (now : ℕ) (said : Result Unit PeerRefusal) : Type 0 where
   pub room : ℕ
-  pub polls : IsPolled old.session (record new.session { reserved = room }) (ticking now old.peer) new.peer said
+  pub polls : IsPolled (roomless old.session) (with_room room new.session) (ticking now old.peer) new.peer said
+  pub has_room : HasRoom old.session new.session room

@@ -3,7 +3,7 @@ use Rattle.std.specs.Prelude.{◌≡◌, ◌≤◌, ℕ, List, [], ◌∷◌, Bo
 use Rattle.std.specs.List.{Contains}
 use Rattle.roll_inputs.specs.declared.remote_word.RemoteWord.{RemoteWord}
 use Rattle.roll_session.specs.Seen.{Seen}
-use Rattle.roll_relay.specs.Told.{roomless, told}
+use Rattle.roll_relay.specs.Told.{roomier, told}
 use Rattle.roll_relay.specs.Turns.{after_turn, due, lessened}
 use Rattle.roll_relay.specs.Waits.{Waits, WasTold}
 use Rattle.roll_relay.specs.declared.held.Held.{Held}
@@ -22,9 +22,9 @@ waited_then held = after_turn (length held.words.items) held.waited.items
 abbrev pub due_then : Held → ℕ
 due_then held = min (length held.words.items) (due held.turns (waited_then held))
 
--- the first so many words are handed over, where so many had waited for one turn, two turns and so on
+-- room is made for all that wait, and the first so many are handed over, where so many had waited for one turn, two turns and so on
 pub record HandsOver (count : ℕ) (waited : List ℕ) (old new : Moment) : Type 0 where
-  pub told_are : roomless new.seen ≡ roomless (told old.seen (take count old.held.words.items))
+  pub told_are : new.seen ≡ told (roomier (length old.held.words.items) old.seen) (take count old.held.words.items)
   pub rest : new.held.words.items ≡ drop count old.held.words.items
   pub waited_is : new.held.waited.items ≡ lessened count waited
   pub turns_are : new.held.turns ≡ old.held.turns

@@ -10,6 +10,8 @@ use Rattle.roll_relay.specs.Relaying.{is_said, taken_kind, Hears, IsUnheard, Rel
 use Rattle.roll_relay.specs.declared.heard.Heard.{Heard}
 use Rattle.roll_session.specs.Seen.{Seen, Step}
 use Rattle.roll_relay.specs.Heard.{beside}
+use Rattle.roll_relay.specs.Rooms.{HasRoom}
+use Rattle.roll_relay.specs.Told.{with_room}
 
 -- a session, the network beside it, and what is carried
 abbrev pub relayed : Seen → Peered → Carrying → Relayed
@@ -20,9 +22,8 @@ abbrev pub relayed_beside : Seen → List RemoteWord → Peered → Carrying →
 relayed_beside s words peer here = record { beside = beside s words peer; carrying = here }
 
 -- with room for so many events more
-abbrev pub with_room : ℕ → Relayed → Relayed
-with_room room it =
-    record it { beside = record it.beside { session = record it.beside.session { reserved = room } } }
+abbrev pub roomed : ℕ → Relayed → Relayed
+roomed room it = record it { beside = record it.beside { session = with_room room it.beside.session } }
 
 -- bytes are heard that came straight, or of who carries; or they aren't, and nothing is changed of what is carried
 pub record HearsBy (step : Step) (now : ℕ) (old new : Relayed) (bytes : List ℕ) (said : Result Heard Ignored) : Type 0 where
@@ -31,10 +32,11 @@ pub record HearsBy (step : Step) (now : ℕ) (old new : Relayed) (bytes : List �
   pub ignored : IfErr said (IsUnheard step now (taken_kind old.carrying bytes) old.beside new.beside bytes)
   pub unchanged : OnErr said (new.carrying ≡ old.carrying)
 
--- the same where words are held back
+-- the same where words are held back: room is asked for as in a session that has none
 pub record HearsHeldBy (step : Step) (now : ℕ) (old new : Relayed) (bytes : List ℕ) (said : Result Heard Ignored) : Type 0 where
   pub room : ℕ
-  pub hears : HearsBy step now old (with_room room new) bytes said
+  pub hears : HearsBy step now (roomed 0 old) (roomed room new) bytes said
+  pub has_room : HasRoom old.beside.session new.beside.session room
 
 -- what goes to a machine is sent, or carried; or the session is another, and nothing is changed but the clock
 pub record SendsBy (s : Seen) (now machine : ℕ) (old new : Peered) (here there : Carrying)

@@ -1,5 +1,5 @@
 -- Words that are held back from a session, and the session as if it had heard them.
-use Rattle.std.specs.Prelude.{◌≡◌, ◌≢◌, ℕ, ◌+◌, List, [], ◌∷◌, length, map, take, not, Bool, true, false, ◌==◌, ◌&&◌, is_none, nat_lt, None, if◌then◌else◌, slice_get}
+use Rattle.std.specs.Prelude.{◌≡◌, ◌≢◌, ℕ, ◌+◌, List, [], ◌∷◌, length, map, max, take, not, Bool, true, false, ◌==◌, ◌&&◌, is_none, nat_lt, None, if◌then◌else◌, slice_get}
 use Rattle.std.specs.List.{list_all, range_with_len}
 use Rattle.std.specs.Option.{option_map_or}
 use Rattle.roll_frame.specs.Core.{settled}
@@ -64,9 +64,17 @@ is_next_at s words k = option_map_or (is_next s (take k words)) (slice_get words
 unfoldable pub are_next : Seen → List RemoteWord → Bool
 are_next s words = list_all (is_next_at s words) (range_with_len 0 (length words))
 
+-- a session with room for so many events more
+abbrev pub with_room : ℕ → Seen → Seen
+with_room room s = record s { reserved = room }
+
+-- and where room was made for so many
+abbrev pub roomier : ℕ → Seen → Seen
+roomier room s = record s { reserved = max s.reserved room }
+
 -- a session but for the number of events that there is room for
 abbrev pub roomless : Seen → Seen
-roomless s = record s { reserved = 0 }
+roomless s = with_room 0 s
 
 -- why a session can't be told words, of which there are some: they aren't its next ones, or there is no room for them
 abbrev pub IsHeldFault : Seen → List RemoteWord → HeldFault → Type 0
@@ -76,4 +84,4 @@ IsHeldFault s words (Session why) =
 
 -- a session as if it had heard the words that are held back from it, where there is room for so many events more
 abbrev pub as_told : Seen → List RemoteWord → ℕ → Seen
-as_told s words room = record (told s words) { reserved = room }
+as_told s words room = with_room room (told s words)

@@ -2,7 +2,7 @@
 ghost use Rattle.std.specs.Prelude.{◌≡◌, ◌⊎◌, ◌≤◌, [], drop, is_none, length, min, nat_lt, take, true, IfErr, IfOk, IfSome, IsFalse, IsTrue, OnErr, OnOk};
 ghost use Rattle.roll_relay.specs.Passing.{Does, Hand, Turn};
 ghost use Rattle.roll_relay.specs.Pressed.{is_pressed, RefusesNext, TakesNext};
-ghost use Rattle.roll_relay.specs.Told.{are_next, roomless, told, IsHeldFault};
+ghost use Rattle.roll_relay.specs.Told.{are_next, roomier, told, IsHeldFault};
 ghost use Rattle.roll_relay.specs.Turns.{after_turn, due, lessened};
 
 use crate::fault::HeldFault;
@@ -82,8 +82,9 @@ impl Held {
     /// `OtherSession` if they aren't the session's next words; `LogFull` or `NoMemory` if there is no room for all that wait. Nothing
     /// is changed then.
     pub fn hand_over<S: Settling>(&mut self, session: &mut S, count: usize) -> Result<(), HeldFault>
-        ensures handed { OnOk result (roomless (S.seen session.new)
-            ≡ roomless (told (S.seen session.old) (take count self.old.words.items))) }
+        ensures handed { OnOk result (S.seen session.new
+            ≡ told (roomier (length self.old.words.items) (S.seen session.old))
+            (take count self.old.words.items)) }
         ensures rest { OnOk result (self.new.words.items ≡ drop count self.old.words.items) }
         ensures waited { OnOk result (self.new.waited.items
             ≡ lessened (min count (length self.old.words.items)) self.old.waited.items) }
@@ -122,8 +123,9 @@ impl Held {
         ensures turned { OnOk result (Does Turn
             (record { seen = S.seen session.old; held = self.old })
             (record { seen = S.seen session.new; held = self.new })) }
-        ensures handed { IfOk result (λ count. roomless (S.seen session.new)
-            ≡ roomless (told (S.seen session.old) (take count self.old.words.items))) }
+        ensures handed { IfOk result (λ count. S.seen session.new
+            ≡ told (roomier (length self.old.words.items) (S.seen session.old))
+            (take count self.old.words.items)) }
         ensures rest { IfOk result
             (λ count. self.new.words.items ≡ drop count self.old.words.items) }
         ensures waited { IfOk result (λ count. self.new.waited.items

@@ -1,8 +1,8 @@
 //! The network of a match beside a session from which words are held back.
-ghost use Rattle.std.specs.Prelude.{◌≡◌, [], IfErr, IfOk, OnErr};
+ghost use Rattle.std.specs.Prelude.{◌≡◌, [], length, IfErr, IfOk, OnErr, OnOk};
 ghost use Rattle.roll_relay.specs.Heard.{beside, PollsHeld};
 ghost use Rattle.roll_relay.specs.Relayed.{bytes_of, relayed_beside, HearsHeldBy, SendsBy};
-ghost use Rattle.roll_relay.specs.Told.{as_told, roomless, IsHeldFault};
+ghost use Rattle.roll_relay.specs.Told.{as_told, roomier, IsHeldFault};
 ghost use Rattle.roll_relay.specs.Waits.{Waits};
 
 use crate::fault::HeldFault;
@@ -37,6 +37,8 @@ impl Held {
             peer.old relay.old) (relayed_beside (S.seen session.new) self.new.words.items peer.new
             relay.new) bytes.now) }
         ensures waits { Waits (S.seen session.old) (S.seen session.new) self.old self.new }
+        ensures ignored { IfOk result (λ said. OnErr said ((self.new ≡ self.old)
+            × (self.old.words.items ≡ [] → session.new ≡ session.old))) }
         ensures refused { IfErr result (IsHeldFault (S.seen session.old) self.old.words.items) }
         ensures unchanged { OnErr result ((self.new ≡ self.old) × (session.new ≡ session.old)
             × (peer.new ≡ peer.old) × (relay.new ≡ relay.old)) }
@@ -107,7 +109,8 @@ impl Held {
             (λ said. SendsBy (as_told (S.seen session.old) self.old.words.items 0) now machine
             peer.old peer.new relay.old relay.new (bytes_of (λ bytes. bytes.items) said)) }
         ensures same { self.new ≡ self.old }
-        ensures session { roomless (S.seen session.new) ≡ roomless (S.seen session.old) }
+        ensures session { OnOk result (S.seen session.new
+            ≡ roomier (length self.old.words.items) (S.seen session.old)) }
         ensures untouched { self.old.words.items ≡ [] → session.new ≡ session.old }
         ensures refused { IfErr result (IsHeldFault (S.seen session.old) self.old.words.items) }
         ensures unchanged { OnErr result ((session.new ≡ session.old) × (peer.new ≡ peer.old)

@@ -129,6 +129,7 @@ impl Relay {
             (record { session = S.seen session.old; peer = peer.old })
             (record { session = S.seen session.new; peer = peer.new }) bytes.now) }
         ensures unchanged { OnErr result (self.new ≡ self.old) }
+        ensures session { OnErr result (session.new ≡ session.old) }
         ensures keeps { S.keeps session.old session.new }
     {
         match self.taken_kind(bytes) {
@@ -155,6 +156,7 @@ impl Relay {
             (record { session = S.seen session.old; peer = peer.old })
             (record { session = S.seen session.new; peer = peer.new }) now bytes.now (Err why)) }
         ensures unchanged { OnErr result (self.new ≡ self.old) }
+        ensures session { OnErr result (session.new ≡ session.old) }
         ensures keeps { S.keeps session.old session.new }
     {
         let sender = byte_of(bytes, SENDER_AT);

@@ -1,9 +1,10 @@
 //! A session and the words that are held back from it, as the network of a match sees them.
-ghost use Rattle.std.specs.Prelude.{◌≡◌, ◌≢◌, ◌+◌, ◌-◌, ◌≤◌, ◌<◌, [], ◌∷◌, ◌++◌, length, true, IfErr, IfOk, IsSome, IsTrue, None, OnErr, OnOk};
+ghost use Rattle.std.specs.Prelude.{◌≡◌, ◌≢◌, ◌+◌, ◌-◌, ◌≤◌, ◌<◌, [], ◌∷◌, ◌++◌, length, max, true, IfErr, IfOk, IsSome, IsTrue, None, OnErr, OnOk};
 ghost use Rattle.roll_frame.specs.Inputs.{disconnect_tests};
 ghost use Rattle.roll_frame.specs.Refusals.{first_refusal};
 ghost use Rattle.roll_frame.specs.declared.event.Event.TheVariants.{DisconnectedFromPeer};
 ghost use Rattle.roll_relay.specs.Told.{as_told, is_next, roomless, told, Fits, Takes};
+ghost use Rattle.roll_relay.specs.Rooms.{KeepRoom};
 ghost use Rattle.roll_relay.specs.Waits.{Waits};
 ghost use Rattle.roll_relay.specs.declared.held.TheConstants.{HELD_LIMIT as MOST_HELD};
 ghost use Rattle.roll_session.specs.Changes.{after_disconnect, disconnect_refusal, reserve_refusal, FitsLog, IsRefused, IsWhy};
@@ -61,6 +62,10 @@ impl<'a, S: Settling> HeldSession<'a, S> {
         ensures waits { Waits (S.seen self.old.session.now) (S.seen self.new.session.now)
             self.old.held.now self.new.held.now }
         ensures same_held { self.new.held.ghost_name ≡ self.old.held.ghost_name }
+        ensures made { OnOk result
+            ((told (S.seen self.new.session.now) self.new.held.now.words.items).reserved
+            ≡ max (told (S.seen self.old.session.now) self.old.held.now.words.items).reserved 1) }
+        ensures unmade { OnErr result (self.new.session.now ≡ self.old.session.now) }
         ensures keeps { S.keeps self.old.session.now self.new.session.now }
     {
         if self.reserved > 0 {
@@ -160,6 +165,10 @@ impl<'a, S: Settling> HeldSession<'a, S> {
         ensures same_held { self.new.held.ghost_name ≡ self.old.held.ghost_name }
         ensures waits { Waits (S.seen self.old.session.now) (S.seen self.new.session.now)
             self.old.held.now self.new.held.now }
+        ensures rooms { KeepRoom
+            (told (S.seen self.old.session.now) self.old.held.now.words.items)
+            (told (S.seen self.new.session.now) self.new.held.now.words.items)
+            self.old.reserved self.new.reserved }
         ensures keeps { S.keeps self.old.session.now self.new.session.now }
     {
         if let Some(why) = self.leave_refusal(player) {
@@ -181,7 +190,8 @@ impl<'a, S: Settling> HeldSession<'a, S> {
 impl<'a, S: Settling> Networked for HeldSession<'a, S> {
     ghost use Rattle.std.specs.Prelude.{◌≡◌, refl};
     ghost use Rattle.std.proofs.Common.{◌∙◌};
-    ghost use Rattle.roll_relay.specs.Told.{as_told};
+    ghost use Rattle.roll_relay.specs.Rooms.{keep_itself, keep_more, KeepRoom};
+    ghost use Rattle.roll_relay.specs.Told.{as_told, told};
     ghost use Rattle.roll_relay.specs.Waits.{Waits, wait_itself, wait_more};
 
     ghost seen = { λ h. as_told (S.seen h.session.now) h.held.now.words.items h.reserved };
@@ -191,9 +201,23 @@ impl<'a, S: Settling> Networked for HeldSession<'a, S> {
     ghost keeps = { λ old new. (new.session.ghost_name ≡ old.session.ghost_name)
         × ((new.held.ghost_name ≡ old.held.ghost_name)
         × (Waits (S.seen old.session.now) (S.seen new.session.now) old.held.now new.held.now
-        × S.keeps old.session.now new.session.now)) };
+        × (KeepRoom (told (S.seen old.session.now) old.held.now.words.items)
+        (told (S.seen new.session.now) new.held.now.words.items) old.reserved new.reserved
+        × S.keeps old.session.now new.session.now))) };
 
-    ghost keeps_itself = { λ it. (refl, (refl, (wait_itself (S.seen it.session.now) it.held.now, S.keeps_itself it.session.now))) };
+    ghost keeps_itself = { λ it. (
+      refl,
+      (
+        refl,
+        (
+          wait_itself (S.seen it.session.now) it.held.now,
+          (
+            keep_itself (told (S.seen it.session.now) it.held.now.words.items) it.reserved,
+            S.keeps_itself it.session.now,
+          ),
+        ),
+      ),
+    ) };
 
     ghost keeps_on = { λ a b c one two. (
       two.0 ∙ one.0,
@@ -202,7 +226,13 @@ impl<'a, S: Settling> Networked for HeldSession<'a, S> {
         (
           wait_more (S.seen a.session.now) (S.seen b.session.now) (S.seen c.session.now) a.held.now b.held.now c.held.now
               one.1.1.0 two.1.1.0,
-          S.keeps_on a.session.now b.session.now c.session.now one.1.1.1 two.1.1.1,
+          (
+            keep_more (told (S.seen a.session.now) a.held.now.words.items)
+                (told (S.seen b.session.now) b.held.now.words.items)
+                (told (S.seen c.session.now) c.held.now.words.items) a.reserved b.reserved c.reserved
+                one.1.1.1.0 two.1.1.1.0,
+            S.keeps_on a.session.now b.session.now c.session.now one.1.1.1.1 two.1.1.1.1,
+          ),
         ),
       ),
     ) };

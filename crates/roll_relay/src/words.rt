@@ -1,7 +1,7 @@
 //! Words that wait for a session: whether they are its next ones, and how it is told them.
 ghost use Rattle.std.specs.Prelude.{◌≡◌, ℕ, ◌+◌, ◌≤◌, [], true, IfErr, OnErr, OnOk, length, slice_get};
 ghost use Rattle.roll_session.specs.Changes.{reserve_refusal, FitsLog, IsWhy};
-ghost use Rattle.roll_relay.specs.Told.{are_next, is_next, roomless, told, words_among, Fits, IsHeldFault};
+ghost use Rattle.roll_relay.specs.Told.{are_next, is_next, roomier, told, words_among, Fits, IsHeldFault};
 
 use crate::fault::HeldFault;
 use crate::held::Waiting;
@@ -52,8 +52,9 @@ fn are_next<S: Settling>(session: &S, words: &[RemoteWord]) -> bool
 pub(crate) fn make_room<S: Settling>(session: &mut S, words: &Waiting) -> Result<(), HeldFault>
     ensures fits { OnOk result (Fits (S.seen session.new) words.now.items) }
     ensures room { OnOk result (length words.now.items ≤ (S.seen session.new).reserved) }
+    ensures made { OnOk result
+        (S.seen session.new ≡ roomier (length words.now.items) (S.seen session.old)) }
     ensures log { OnOk result (FitsLog (S.seen session.new) (length words.now.items)) }
-    ensures same { roomless (S.seen session.new) ≡ roomless (S.seen session.old) }
     ensures accepted { OnOk result (are_next (S.seen session.old) words.now.items ≡ true) }
     ensures refused { IfErr result (IsHeldFault (S.seen session.old) words.now.items) }
     ensures unchanged { OnErr result (session.new ≡ session.old) }

@@ -42,7 +42,7 @@ returns-in-Err c =
       };
       held = same;
       epochs = refl;
-      room = c.in-Err.ensures.session;
+      room = tt;
       untouched = λ none. ap (λ (s : Asked). record c.args.live.now { session = s }) kept.0;
       rest = refl;
       keeps = c.in-Err.ensures.keeps;

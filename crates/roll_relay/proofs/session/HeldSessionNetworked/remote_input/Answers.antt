@@ -5,6 +5,8 @@ use Rattle.roll_inputs.specs.declared.remote_word.RemoteWord.{RemoteWord}
 use Rattle.roll_session.specs.Changes.{remote_refusal, FitsLog}
 use Rattle.roll_session.specs.Seen.{Seen}
 use Rattle.roll_relay.specs.Told.{is_next, roomless, told, Takes}
+use Rattle.roll_relay.specs.Rooms.{KeepRoom}
+use Rattle.roll_relay.proofs.Rooms.{held_room, same_room, taken_room}
 use Rattle.roll_relay.proofs.Told.{as_told_same, full_same, held_more, next_refusal, next_taken, takes_room, told_room}
 use Rattle.roll_relay.specs.Waits.{wait_more}
 use Rattle.roll_relay.proofs.Waiting.{said_waits}
@@ -95,6 +97,7 @@ returns-in-Ok-clause-keeps g c =
     let place = c.make_place.new.self in
     let new = c.hold.new.self in
     let seen = g.S.Networked.seen in
+    let w : RemoteWord = record { player = c.args.player; frame = c.args.frame; word = c.args.word } in
     let i = c.in-Ok.ensures in
     let p = c.make_place.ensures in
     let h = c.hold.ensures in
@@ -107,7 +110,15 @@ returns-in-Ok-clause-keeps g c =
         (
           wait_more (seen old.session.now) (seen place.session.now) (seen new.session.now) old.held.now place.held.now new.held.now
               waits h.waits,
-          subst (λ s. g.S.Networked.keeps old.session.now s) (sym h.session) keeps,
+          (
+            subst (λ (ws : List RemoteWord). KeepRoom (told (seen old.session.now) old.held.now.words.items) (told (seen new.session.now) ws) old.reserved new.reserved)
+                (sym h.words)
+                (held_room (seen old.session.now) (seen mid.session.now) (seen new.session.now) old.held.now.words.items
+                place.held.now.words.items w old.reserved new.reserved (ap (λ (ws : List RemoteWord). (told (seen mid.session.now) ws).reserved) (sym i.words) ∙ i.made)
+                i.same (ap (λ s. told (seen s) place.held.now.words.items) h.session ∙ p.same ∙ ap (told (seen mid.session.now)) i.words)
+                (h.reserved ∙ ap (λ n. n - 1) (p.reserved ∙ i.reserved))),
+            subst (λ s. g.S.Networked.keeps old.session.now s) (sym h.session) keeps,
+          ),
         ),
       ),
     )
@@ -117,17 +128,20 @@ returns-in-Ok-Taken-clause-keeps g c =
     let old = c.args.self.now in
     let mid = c.tell_all.new.self in
     let seen = g.S.Networked.seen in
-    let told = c.tell_all.ensures in
+    let told_all = c.tell_all.ensures in
     let said = c.remote_input.ensures in
     let waits = said_waits (seen mid.session.now) (seen c.remote_input.new.self) c.args.player c.args.frame c.args.word
     (remote_refusal (seen mid.session.now) c.args.player c.args.frame) mid.held.now c.remote_input.result said.heard said.refused in (
-      told.same_session,
+      told_all.same_session,
       (
-        told.same_held,
+        told_all.same_held,
         (
           wait_more (seen old.session.now) (seen mid.session.now) (seen c.remote_input.new.self) old.held.now mid.held.now mid.held.now
-              told.waits waits,
-          g.S.Networked.keeps_on old.session.now mid.session.now c.remote_input.new.self told.keeps said.keeps,
+              told_all.waits waits,
+          (
+            ?,
+            g.S.Networked.keeps_on old.session.now mid.session.now c.remote_input.new.self told_all.keeps said.keeps,
+          ),
         ),
       ),
     )
@@ -137,17 +151,20 @@ returns-in_default-clause-keeps g c =
     let old = c.args.self.now in
     let mid = c.tell_all.new.self in
     let seen = g.S.Networked.seen in
-    let told = c.tell_all.ensures in
+    let told_all = c.tell_all.ensures in
     let said = c.remote_input.ensures in
     let waits = said_waits (seen mid.session.now) (seen c.remote_input.new.self) c.args.player c.args.frame c.args.word
     (remote_refusal (seen mid.session.now) c.args.player c.args.frame) mid.held.now c.remote_input.result said.heard said.refused in (
-      told.same_session,
+      told_all.same_session,
       (
-        told.same_held,
+        told_all.same_held,
         (
           wait_more (seen old.session.now) (seen mid.session.now) (seen c.remote_input.new.self) old.held.now mid.held.now mid.held.now
-              told.waits waits,
-          g.S.Networked.keeps_on old.session.now mid.session.now c.remote_input.new.self told.keeps said.keeps,
+              told_all.waits waits,
+          (
+            ?,
+            g.S.Networked.keeps_on old.session.now mid.session.now c.remote_input.new.self told_all.keeps said.keeps,
+          ),
         ),
       ),
     )
