@@ -1,8 +1,8 @@
 //! Windows of numbers, for games in other languages: plain values, which need no handle.
 ghost use Rattle.std.specs.Prelude.{◌≡◌, ℕ, List, false, if◌then◌else◌};
-ghost use Rattle.roll_window.specs.Windows.{IsWindowOf, after, is_new};
+ghost use Rattle.roll_contact.specs.Windows.{IsWindowOf, after, is_new};
 
-use roll_window::Window;
+use roll_contact::Window;
 
 /// Whether a number is new: 1 if so, else 0.
 #[unsafe(no_mangle)]

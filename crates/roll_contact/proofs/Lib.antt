@@ -1,3 +1,4 @@
 pub mod Seals
 pub mod Connections
 pub mod Newer
+pub mod Taking

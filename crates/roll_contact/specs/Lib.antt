@@ -3,4 +3,5 @@ pub mod Terms
 pub mod Keys
 pub mod Contacts
 pub mod Seals
+pub mod Windows
 pub mod Laws

@@ -6,6 +6,8 @@ ghost use Rattle.roll_contact.specs.declared.contact.TheConstants.{BEHIND_LIMIT,
 ghost use Rattle.roll_contact.specs.declared.key.TheConstants.{BLOCK};
 ghost use Rattle.roll_contact.specs.declared.seal.TheConstants.{INNER, OUTER};
 ghost use Rattle.roll_contact.specs.declared.terms.TheConstants.{CARRIES, LASTS};
+ghost use Rattle.roll_contact.specs.declared.window.TheConstants.{PLACES, REACH};
+ghost use Rattle.roll_contact.specs.Windows.{NoneIsTakenTwice};
 
 /// A draw is believed only by a hello that says this opening's own draw and means the same match. No hello without that
 /// draw puts another in the place of the one that is believed, or is told as a restart.
@@ -46,10 +48,17 @@ pub fn limits_are()
     ensures outer { OUTER ≡ 92 }
     ensures carries { CARRIES ≡ 1 }
     ensures lasts { LASTS ≡ 2 }
+    ensures reach { REACH ≡ 1024 }
+    ensures places { PLACES ≡ 17 }
 {}
 
 /// Openings whose draws differ seal by keys that differ. A datagram that was sealed by one key is opened by another only if both
 /// make the same tag of it.
 pub fn keys_differ()
     ensures { KeysDiffer }
+{}
+
+/// Whatever numbers come, and in whatever order, none is taken twice.
+pub fn none_is_taken_twice()
+    ensures { NoneIsTakenTwice }
 {}

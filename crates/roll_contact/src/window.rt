@@ -1,6 +1,6 @@
 //! The window of numbers.
 ghost use Rattle.std.specs.Prelude.{◌≡◌, ℕ, List, [], ◌∷◌, replicate, length, true, false};
-ghost use Rattle.roll_window.specs.Windows.{IsWindowOf, after, all_after, answers_of, has, is_new, place_of};
+ghost use Rattle.roll_contact.specs.Windows.{IsWindowOf, after, all_after, answers_of, has, is_new, place_of};
 
 /// A number is too old once one has been taken that is more than so many above it.
 pub const REACH: u64 = 1_024;

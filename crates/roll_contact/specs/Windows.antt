@@ -2,8 +2,8 @@
 use Rattle.std.specs.Prelude.{◌≡◌, ℕ, ◌+◌, ◌/◌, ◌%◌, ◌≤◌, ◌==◌, max, List, [], ◌∷◌, Bool, not, ◌&&◌, nat_le, if◌then◌else◌, slice_index}
 use Rattle.std.specs.Int.{bit_at}
 use Rattle.std.specs.List.{IsDistinct, list_any}
-use Rattle.roll_window.specs.declared.window.TheConstants.{PLACES, REACH, RUN}
-use Rattle.roll_window.specs.declared.window.Window.{Window}
+use Rattle.roll_contact.specs.declared.window.TheConstants.{PLACES, REACH, RUN}
+use Rattle.roll_contact.specs.declared.window.Window.{Window}
 
 -- ---- a set of numbers, as a list
 

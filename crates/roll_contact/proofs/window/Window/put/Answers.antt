@@ -1,7 +1,7 @@
 use Rattle.std.proofs.Common.{◌≡◌, ◌∙◌, ap, sym, refl, arith, get_or}
-use Rattle.roll_window.proofs.Taking.{is_window_put, kept_anew, kept_bits, kept_same}
-use Rattle.roll_window.proofs.window.Window.put.Goals as goal
-use Rattle.roll_window.proofs.window.Window.put.Goals.{then-self-place, else-self-place}
+use Rattle.roll_contact.proofs.Taking.{is_window_put, kept_anew, kept_bits, kept_same}
+use Rattle.roll_contact.proofs.window.Window.put.Goals as goal
+use Rattle.roll_contact.proofs.window.Window.put.Goals.{then-self-place, else-self-place}
 
 pub returns : goal.returns
 returns c taken are fresh =

@@ -6,8 +6,8 @@ use Rattle.std.specs.List.{AllByRecursion, IsDistinct}
 use Rattle.std.proofs.lemmas.Bool.{cases_eq, cases_lt}
 use Rattle.std.proofs.lemmas.Bool.Decides.{nat_tests}
 use Rattle.std.proofs.lemmas.Nat.Bits.{bit_at_set_same, bit_at_set_other, bit_at-zero}
-use Rattle.roll_window.specs.Windows.{IsWindowOf, after, all_after, answers_of, has, highest_of, is_new, place_of, was_taken}
-use Rattle.roll_window.specs.declared.window.Window.{Window}
+use Rattle.roll_contact.specs.Windows.{IsWindowOf, after, all_after, answers_of, has, highest_of, is_new, place_of, was_taken}
+use Rattle.roll_contact.specs.declared.window.Window.{Window}
 
 -- two runs that share a place, of numbers within reach of each other, are one
 pub one_run : (n m : ℕ) → n ≤ m + 1024 → m ≤ n + 1024 → n / 64 % 17 ≡ m / 64 % 17 → n / 64 ≡ m / 64

@@ -1,6 +1,6 @@
 use Rattle.std.proofs.Common.{◌≡◌, List, ℕ, length, take}
-use Rattle.roll_window.specs.Windows.{IsWindowOf, all_after, answers_of}
-use Rattle.roll_window.proofs.window.Window.take_all.Given as goal
+use Rattle.roll_contact.specs.Windows.{IsWindowOf, all_after, answers_of}
+use Rattle.roll_contact.proofs.window.Window.take_all.Given as goal
 
 -- the numbers so far were taken, and answered
 abbrev pub invariant-loop-at : goal.invariant-loop-at

@@ -1,8 +1,8 @@
 use Rattle.std.proofs.Common.{◌∙◌, ap, sym, subst, refl, arith, List, ℕ}
 use Rattle.std.proofs.lemmas.List.{length-set, take_more, take_more_set, take_all}
-use Rattle.roll_window.specs.Windows.{IsWindowOf, all_after, answers_of}
-use Rattle.roll_window.proofs.Taking.{after_last, answers_last}
-use Rattle.roll_window.proofs.window.Window.take_all.Goals as goal
+use Rattle.roll_contact.specs.Windows.{IsWindowOf, all_after, answers_of}
+use Rattle.roll_contact.proofs.Taking.{after_last, answers_last}
+use Rattle.roll_contact.proofs.window.Window.take_all.Goals as goal
 
 pub loop-at-preserved : goal.loop-at-preserved
 loop-at-preserved c =

@@ -1,7 +1,7 @@
 use Rattle.std.proofs.Common.{[]}
 use Rattle.std.specs.List.{IsDistinct}
-use Rattle.roll_window.proofs.Taking.{still_distinct}
-use Rattle.roll_window.proofs.laws.none_is_taken_twice.Goals as goal
+use Rattle.roll_contact.proofs.Taking.{still_distinct}
+use Rattle.roll_contact.proofs.laws.none_is_taken_twice.Goals as goal
 
 pub returns : goal.returns
 unfolding IsDistinct
