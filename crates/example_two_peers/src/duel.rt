@@ -26,14 +26,14 @@ impl Duel {
 
     /// Plays the match, whose second side starts so many turns late. After the last frame both sides go on until each has all,
     /// and knows that the other has.
-    pub fn play(&mut self, late: u32) -> Result<(), Fault> {
+    pub fn play(&mut self, alloc: Global, late: u32) -> Result<(), Fault> {
         for turn in 0..MOST_TURNS {
             if self.first.is_done() && self.second.is_done() {
                 break;
             }
-            self.first.turn(turn, &mut self.line)?;
+            self.first.turn(alloc, turn, &mut self.line)?;
             if turn >= late {
-                self.second.turn(turn, &mut self.line)?;
+                self.second.turn(alloc, turn, &mut self.line)?;
             }
         }
         Ok(())

@@ -35,7 +35,7 @@ fn run<R: Runtime + AllocGlobal>(rt: &R, late: u32) -> io::Result<bool> {
 
 /// Plays the match, and prints how it went.
 fn play<R: Runtime + AllocGlobal>(rt: &R, late: u32, duel: &mut Duel) -> io::Result<bool> {
-    match duel.play(late) {
+    match duel.play(rt.alloc(), late) {
         Ok(()) => report(rt, late, duel),
         Err(why) => break_off(rt, why),
     }

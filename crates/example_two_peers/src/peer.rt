@@ -1,10 +1,11 @@
 //! One side of a match.
 ghost use Rattle.std.specs.Prelude.{◌≤◌};
 
-use crate::line::{Bytes, Line};
+use crate::line::Line;
+use fazgrond::epochs::Terms;
 use fazgrond::{
-    MatchSettings, OpenRefusal, OtherSession, Peer, PeerEvent, PeerRefusal, Refusal, Session,
-    Settings,
+    Chain, HeldFault, Match, MatchSettings, OpenRefusal, PeerEvent, PeerRefusal, Profile, Refusal,
+    Session, Settings, ends_in_roll,
 };
 use game_fighter::{Fight, State};
 use std::alloc::Global;
@@ -19,7 +20,7 @@ const LEAVES: u8 = 1;
 /// How many milliseconds a turn takes, about.
 const TURN: u32 = 16;
 
-/// The most datagrams that a side hears in a turn, and the most events.
+/// The most datagrams that a side hears in a turn, and sends, and the most events.
 const MOST: u32 = 100;
 
 /// How many times a side says that it leaves, since what it says may be lost.
@@ -37,19 +38,19 @@ pub enum Fault {
     /// A turn isn't made whole.
     #[error("{0}")]
     Turn(#[from] PeerRefusal),
-    /// The session isn't the match's.
+    /// The session takes no inputs that came.
     #[error("{0}")]
-    Other(#[from] OtherSession),
+    Held(#[from] HeldFault),
     /// The other side has another state of a settled frame.
     #[error("the sides don't play the same game")]
     Desync,
 }
 
-/// One side: a session, the network beside it, and its player.
+/// One side: a session, the match beside it, and its player.
 #[derive(Drop)]
 pub struct Side {
     pub session: Session<Fight>,
-    pub peer: Peer,
+    it: Match<Session<Fight>>,
     player: u8,
     // This machine, and the other.
     me: u8,
@@ -60,6 +61,8 @@ pub struct Side {
     pub waited: u32,
     // How many times more it says that it leaves.
     byes: u32,
+    // Whether the other has left.
+    left: bool,
 }
 
 impl Side {
@@ -69,16 +72,17 @@ impl Side {
     {
         let player = me + 1;
         let session = open(alloc, settings(player, delay)?)?;
-        match Peer::open(alloc, &session, the_match(me)) {
-            Ok(peer) => Ok(Side {
+        match Match::open(alloc, &session, the_match(me), the_chain(me), 0) {
+            Ok(it) => Ok(Side {
                 session,
-                peer,
+                it,
                 player,
                 me,
                 other: 1 - me,
                 wait: 0,
                 waited: 0,
                 byes: BYES,
+                left: false,
             }),
             Err(why) => {
                 drop(session);
@@ -88,18 +92,18 @@ impl Side {
     }
 
     /// A turn of the main loop: hears what has come, plays a frame if it may, and tells the other.
-    pub fn turn(&mut self, turn: u32, line: &mut Line) -> Result<(), Fault> {
+    pub fn turn(&mut self, alloc: Global, turn: u32, line: &mut Line) -> Result<(), Fault> {
         let now = turn.wrapping_mul(TURN);
         self.hear(turn, now, line);
-        self.note_events()?;
-        self.press()?;
-        self.peer.turn(&mut self.session, now)?;
-        let digest = digest(self.session.settled_state());
-        self.peer.note_settled(&self.session, digest)?;
-        if let Some(bytes) = self.tell(now)? {
-            line.send(self.other, turn, &bytes).map_err(Refusal::from)?;
+        self.it.turn(alloc, &mut self.session, now).polled??;
+        if self.it.is_running() {
+            self.press()?;
+            self.play()?;
         }
-        Ok(())
+        let digest = digest(self.session.settled_state());
+        self.it.note(&self.session, digest);
+        self.tell(turn, line)?;
+        self.note_events()
     }
 
     /// Hears what has come.
@@ -109,27 +113,14 @@ impl Side {
                 return;
             };
             // What is ignored changed nothing of the match.
-            let _ = self.peer.receive(&mut self.session, &bytes, now);
+            let _ = self.it.receive(&mut self.session, &bytes, now);
         }
     }
 
-    /// Takes what the peer has to say. A game would also show who is there, and who has left.
-    fn note_events(&mut self) -> Result<(), Fault> {
-        for _ in 0..MOST {
-            match self.peer.next_event() {
-                Some(PeerEvent::TimeSync { frames_ahead }) => self.wait = frames_ahead,
-                Some(PeerEvent::Desync { .. }) => return Err(Fault::Desync),
-                Some(_) => {}
-                None => break,
-            }
-        }
-        Ok(())
-    }
-
-    /// Gives the word of the buttons, once the match has begun, unless this side has to wait.
+    /// Gives the word of the buttons, unless this side has to wait.
     fn press(&mut self) -> Result<(), Refusal> {
         let frame = self.session.frame();
-        if frame == LAST_FRAME || !self.peer.is_running() || self.is_to_wait() {
+        if frame == LAST_FRAME || self.is_to_wait() {
             return Ok(());
         }
         let word = buttons(self.player, frame);
@@ -150,21 +141,50 @@ impl Side {
         true
     }
 
-    /// What to tell the other; at the end, that this side leaves.
-    fn tell(&mut self, now: u32) -> Result<Option<Bytes>, OtherSession> {
-        if !self.is_over() {
-            return self.peer.send(&self.session, self.other, now);
+    /// Goes to the next frame if the word of this one is there; else rolls back, if anything came since the last time.
+    fn play(&mut self) -> Result<(), Refusal> {
+        match self.session.advance_frame() {
+            Err(Refusal::LocalInputMissing) if !ends_in_roll(self.session.log()) => {
+                self.session.synchronize_input()?;
+                Ok(())
+            }
+            Ok(_) | Err(Refusal::LocalInputMissing) => Ok(()),
+            Err(why) => Err(why),
         }
-        if self.byes == 0 {
-            return Ok(None);
+    }
+
+    /// Sends what goes out in this turn; at the end, that this side leaves.
+    fn tell(&mut self, turn: u32, line: &mut Line) -> Result<(), Refusal> {
+        if self.is_over() {
+            self.it.leave(LEAVES);
+            self.byes = self.byes.saturating_sub(1);
         }
-        self.byes -= 1;
-        Ok(self.peer.bye(self.other, LEAVES))
+        for _ in 0..MOST {
+            match self.it.next(&mut self.session) {
+                Some((to, bytes)) => line.send(to, turn, &bytes)?,
+                None => break,
+            }
+        }
+        Ok(())
+    }
+
+    /// Takes what the match has to say. A game would also show who is there, and who has left.
+    fn note_events(&mut self) -> Result<(), Fault> {
+        for _ in 0..MOST {
+            match self.it.event() {
+                Some(PeerEvent::TimeSync { frames_ahead }) => self.wait = frames_ahead,
+                Some(PeerEvent::Left { .. }) => self.left = true,
+                Some(PeerEvent::Desync { .. }) => return Err(Fault::Desync),
+                Some(_) => {}
+                None => break,
+            }
+        }
+        Ok(())
     }
 
     /// Whether the last frame is settled here, and nothing is left to tell: the other said that it has all words of this side.
     fn is_over(&self) -> bool {
-        match self.peer.stats(self.other) {
+        match self.it.stats(self.other) {
             Some(stats) => self.is_settled() && stats.words_queued == 0,
             None => false,
         }
@@ -177,7 +197,7 @@ impl Side {
 
     /// Whether this side has no more to do: it said that it leaves, or heard it of the other.
     pub fn is_done(&self) -> bool {
-        self.is_settled() && (self.byes == 0 || self.peer.mesh().is_gone(self.other))
+        self.is_settled() && (self.byes == 0 || self.left)
     }
 }
 
@@ -216,6 +236,19 @@ fn the_match(me: u8) -> MatchSettings {
         takes_marks: false,
         words: 1,
     }
+}
+
+/// The only epoch of the match, as this one doesn't go on in others.
+fn the_chain(me: u8) -> Chain {
+    let terms = Terms {
+        id: 0,
+        base: 0,
+        owners: [0, 1, 255, 255, 255, 255, 255, 255],
+        delays: [2, 1, 0, 0, 0, 0, 0, 0],
+        threshold: 8,
+        words: 1,
+    };
+    Chain::new(the_match(me), Profile::Ggpo, terms, 0)
 }
 
 /// A digest of a state, by FNV-1a.

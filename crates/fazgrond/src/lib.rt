@@ -6,16 +6,13 @@
 //! - **A game** says what its states are and what a row of inputs makes of them: [`game::RawGame`] and [`game::Game`]; with
 //!   [`game::Shown`] its states have a text. [`SyncTest`] finds out whether it comes out the same each time.
 //! - **A session** plays it on one thread: [`Settings`] and [`Session`]. A call that is not taken answers a [`Refusal`].
-//! - **Over a network**: a [`Peer`] stands beside a session in a match of several machines ([`MatchSettings`]). It makes and hears
-//!   datagrams, and says what happened ([`PeerEvent`]). The session stays the program's, and is lent to its calls.
-//!   If frames are dear, words that came are held back ([`relaying::Held`]) until another thread has run their frames: then no frame
-//!   is run again on the thread that draws.
-//!   Where the line between two of three or more machines may break, a [`relaying::Relay`] stands beside the peer: then others carry
-//!   what goes between the two.
-//! - **In epochs** a match goes on when somebody comes, comes back, or is to have another delay: a mark ([`Peer::mark`]) on a word says so,
-//!   and where it counts the epoch ends. A [`Chain`] has the terms of this epoch ([`epochs`]) and says when it is over; [`Epochs`] has it
-//!   beside the peer, and the epoch before as long as somebody may still be in it. [`go_on`] starts the next one: its session
-//!   begins with the state at the end of this one.
+//! - **Over a network**: a [`Match`] of several machines ([`MatchSettings`]) stands beside a session. It makes and hears datagrams,
+//!   and says what happened ([`PeerEvent`]). The session stays the program's, and is lent to its calls.
+//!   If frames are dear, inputs that came wait until another thread has run their frames: then no frame is run again on the thread
+//!   that draws. Where the line between two of three or more machines may break, others carry what goes between the two.
+//! - **In epochs** a match goes on when somebody comes, comes back, or is to have another delay: a mark ([`Match::mark`]) on a word says so,
+//!   and where it counts the epoch ends. A [`Chain`] has the terms of the first one ([`epochs`]). The session of the next one
+//!   begins with the state at the end of this one, once it has an engine of the game ([`Match::give_engine`]).
 //! - **Beside other threads**: [`Host`] has a session, [`Link`]s that bring remote words from the network's thread, and the
 //!   workers of a [`Crew`], which run guesses ahead.
 //! - **Guesses** worth making: [`Habits`] has what was seen of a player, and chooses them. [`PlayerHabits`] chooses them by parts of
@@ -27,11 +24,13 @@
 //!
 //! The main loop of a match over a network, in each turn:
 //!
-//! 1. [`Peer::receive`] for each datagram that has come, and [`Peer::next_event`] until there is none.
-//! 2. Once [`Peer::is_running`] says that the match has begun, [`Session::add_local_input`] with the word of the buttons. If it
-//!    answers [`Refusal::PredictionThreshold`], this machine is too far ahead, and waits.
-//! 3. [`Peer::turn`], which rolls back if a prediction was wrong. Then [`Session::current`] is the state to show.
-//! 4. [`Peer::send`] for each other machine.
+//! 1. [`Match::receive`] for each datagram that has come.
+//! 2. [`Match::turn`].
+//! 3. Once [`Match::is_running`] says that the match has begun, [`Session::add_local_input`] with the word of the buttons, and
+//!    [`Session::advance_frame`]. If the first answers [`Refusal::PredictionThreshold`], this machine is too far ahead, and waits:
+//!    [`Session::synchronize_input`]. Then [`Session::current`] is the state to show.
+//! 4. [`Match::note`] with a digest of the settled state, and [`Match::next`] until there is no datagram to send.
+//! 5. [`Match::event`] until there is none.
 //!
 //! The program `example_two_peers` is this loop, and `example_on_threads` the one with a host; both use this crate alone.
 #![tactic(auto)]
@@ -43,10 +42,6 @@ pub use roll_branch::PackedRoute;
 pub use roll_branch::extend;
 pub use roll_cert as claims;
 pub use roll_chain::Chain;
-pub use roll_chain::Epochs;
-pub use roll_chain::Opening;
-pub use roll_chain::Past;
-pub use roll_chain::go_on;
 pub use roll_chain::ticket_for;
 pub use roll_epoch as epochs;
 pub use roll_frame::Advice;
@@ -85,8 +80,12 @@ pub use roll_link::Link;
 pub use roll_link::LinkSender;
 pub use roll_link::Remote;
 pub use roll_link::SendFault;
+pub use roll_match::Lasting;
+pub use roll_match::Match;
+pub use roll_match::Turn;
+pub use roll_match::Unheard;
+pub use roll_match::Unmarked;
 pub use roll_member::JoinRefusal;
-pub use roll_member::Taken;
 pub use roll_peer::Field;
 pub use roll_peer::Ignored;
 pub use roll_peer::MarkRefusal;
@@ -96,9 +95,6 @@ pub use roll_peer::OtherSession;
 pub use roll_peer::Peer;
 pub use roll_peer::PeerEvent;
 pub use roll_peer::PeerRefusal;
-pub use roll_peer::Received;
-pub use roll_peer::Seating;
-pub use roll_peer::Stage;
 pub use roll_peer::Stats;
 pub use roll_peer::ends_in_roll;
 pub use roll_pool::Crew;
@@ -112,6 +108,7 @@ pub use roll_pool::WORKER_LIMIT;
 pub use roll_pool::WorkerEnd;
 pub use roll_pool::start_all;
 pub use roll_relay as relaying;
+pub use roll_relay::HeldFault;
 pub use roll_session::Call;
 pub use roll_session::Grafted;
 pub use roll_session::Heard;
