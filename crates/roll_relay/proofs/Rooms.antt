@@ -1,5 +1,5 @@
 -- For how many events there is room as something is heard.
-use Rattle.std.proofs.Common.{◌≡◌, ◌∙◌, ℕ, ◌+◌, ◌-◌, List, ◌∷◌, ◌++◌, [], ap, arith, length, max, refl, sym}
+use Rattle.std.proofs.Common.{◌≡◌, ◌∙◌, ℕ, ◌+◌, ◌-◌, List, ◌∷◌, ◌++◌, [], ap, arith, length, max, subst, sym}
 use Rattle.std.specs.Prelude.{IfErr, IfOk, Option, Result, Ok, Err}
 use Rattle.roll_frame.specs.declared.refusal.Refusal.{Refusal}
 use Rattle.roll_inputs.specs.declared.heard.Heard.{Heard}
@@ -40,10 +40,17 @@ made_room a b r q events logged reserved kept = record {
   there = omega (arith, logged, kept);
 }
 
--- a word was heard, or it wasn't
+-- all that waited was told before
+pub after_all : (s mid after : Seen) (words held : List RemoteWord) (r q : ℕ) → mid ≡ told s words → held ≡ [] → KeepRoom mid after r q
+    → KeepRoom (told s words) (told after held) r q
+after_all s mid after words held r q is none kept =
+    subst (λ (ws : List RemoteWord). KeepRoom (told s words) (told after ws) r q) (sym none)
+    (subst (λ (x : Seen). KeepRoom x after r q) is kept)
+
+-- a word was heard
 pub taken_room : (a b : Seen) (r q p frame word : ℕ) → IsHeard a b p frame word Taken → q ≡ r - 1 → KeepRoom a b r q
 taken_room a b r q p frame word heard kept =
-    one_room a b r q (ap (λ (x : Seen). x.core.logged) heard.1.1) (ap (λ (x : Seen). x.reserved) heard.1.1) kept
+    one_room a b r q (ap (λ (x : Seen). x.core.logged) heard.2) (ap (λ (x : Seen). x.reserved) heard.2) kept
 
 -- one more is held back, where there was room made for one
 pub held_room : (s mid later : Seen) (words held : List RemoteWord) (w : RemoteWord) (r q : ℕ)

@@ -314,9 +314,13 @@ impl<'a, S: Settling> Networked for HeldSession<'a, S> {
         self.reserved = reserved.saturating_sub(1);
         match self.session.remote_input(player, frame, word.word) {
             Ok(Heard::Taken) => Ok(Heard::Taken),
-            said => {
+            Ok(Heard::Repeated) => {
                 self.reserved = reserved;
-                said
+                Ok(Heard::Repeated)
+            }
+            Err(why) => {
+                self.reserved = reserved;
+                Err(why)
             }
         }
     }

@@ -26,3 +26,17 @@ returns-in-Ok-clause-room g c =
     let kept = told_stays (g.S.Networked.seen c.reserve_log.new.self) words in
     let room = ap (λ (x : Seen). x.reserved) c.in-Ok.ensures.reserved in
     omega (arith, kept.reserved, room, c.len-waiting.ensures.value)
+
+pub returns-then-self-gt0-clause-made : goal.returns-then-self-gt0-clause-made
+returns-then-self-gt0-clause-made g c =
+    let old = c.args.self.now in
+    let kept = told_stays (g.S.Networked.seen old.session.now) old.held.now.words.items in
+    omega (arith, old.room, kept.reserved, c.if-self-gt0.true)
+
+pub returns-in-Ok-clause-made : goal.returns-in-Ok-clause-made
+returns-in-Ok-clause-made g c =
+    let words = c.args.self.now.held.now.words.items in
+    let was = told_stays (g.S.Networked.seen c.args.self.now.session.now) words in
+    let kept = told_stays (g.S.Networked.seen c.reserve_log.new.self) words in
+    let room = ap (λ (x : Seen). x.reserved) c.in-Ok.ensures.reserved in
+    omega (arith, was.reserved, kept.reserved, room, c.len-waiting.ensures.value)

@@ -2,11 +2,11 @@ use Rattle.std.proofs.Common.{◌≡◌, ◌∙◌, ◌+◌, ◌-◌, ◌∷◌,
 use Rattle.std.specs.Prelude.{unwrap_or}
 use Rattle.roll_frame.specs.declared.refusal.Refusal.TheVariants.{NoMemory}
 use Rattle.roll_inputs.specs.declared.remote_word.RemoteWord.{RemoteWord}
-use Rattle.roll_session.specs.Changes.{remote_refusal, FitsLog}
+use Rattle.roll_session.specs.Changes.{remote_refusal, FitsLog, IsHeard}
 use Rattle.roll_session.specs.Seen.{Seen}
 use Rattle.roll_relay.specs.Told.{is_next, roomless, told, Takes}
 use Rattle.roll_relay.specs.Rooms.{KeepRoom}
-use Rattle.roll_relay.proofs.Rooms.{held_room, same_room, taken_room}
+use Rattle.roll_relay.proofs.Rooms.{after_all, held_room, same_room, taken_room}
 use Rattle.roll_relay.proofs.Told.{as_told_same, full_same, held_more, next_refusal, next_taken, takes_room, told_room}
 use Rattle.roll_relay.specs.Waits.{wait_more}
 use Rattle.roll_relay.proofs.Waiting.{said_waits}
@@ -139,20 +139,26 @@ returns-in-Ok-Taken-clause-keeps g c =
           wait_more (seen old.session.now) (seen mid.session.now) (seen c.remote_input.new.self) old.held.now mid.held.now mid.held.now
               told_all.waits waits,
           (
-            ?,
+            after_all (seen old.session.now) (seen mid.session.now) (seen c.remote_input.new.self) old.held.now.words.items
+                mid.held.now.words.items old.reserved c.saturating_sub-self.result told_all.session told_all.none
+                (taken_room (seen mid.session.now) (seen c.remote_input.new.self) old.reserved c.saturating_sub-self.result c.args.player
+                c.args.frame c.args.word (subst (IsHeard (seen mid.session.now) (seen c.remote_input.new.self) c.args.player c.args.frame c.args.word)
+                c.in-Ok-Taken.field-0-is c.in-Ok-Taken.ensures.heard) (c.saturating_sub-self.ensures ∙ ap (λ n. n - 1) told_all.reserved)),
             g.S.Networked.keeps_on old.session.now mid.session.now c.remote_input.new.self told_all.keeps said.keeps,
           ),
         ),
       ),
     )
 
-pub returns-in_default-clause-keeps : goal.returns-in_default-clause-keeps
-returns-in_default-clause-keeps g c =
+pub returns-in-Ok-Repeated-clause-keeps : goal.returns-in-Ok-Repeated-clause-keeps
+returns-in-Ok-Repeated-clause-keeps g c =
     let old = c.args.self.now in
     let mid = c.tell_all.new.self in
     let seen = g.S.Networked.seen in
     let told_all = c.tell_all.ensures in
     let said = c.remote_input.ensures in
+    let same = (subst (IsHeard (seen mid.session.now) (seen c.remote_input.new.self) c.args.player c.args.frame c.args.word)
+    c.in-Ok-Repeated.field-0-is c.in-Ok-Repeated.ensures.heard).1 in
     let waits = said_waits (seen mid.session.now) (seen c.remote_input.new.self) c.args.player c.args.frame c.args.word
     (remote_refusal (seen mid.session.now) c.args.player c.args.frame) mid.held.now c.remote_input.result said.heard said.refused in (
       told_all.same_session,
@@ -162,8 +168,58 @@ returns-in_default-clause-keeps g c =
           wait_more (seen old.session.now) (seen mid.session.now) (seen c.remote_input.new.self) old.held.now mid.held.now mid.held.now
               told_all.waits waits,
           (
-            ?,
+            after_all (seen old.session.now) (seen mid.session.now) (seen c.remote_input.new.self) old.held.now.words.items
+                mid.held.now.words.items old.reserved mid.reserved told_all.session told_all.none
+                (same_room (seen mid.session.now) (seen c.remote_input.new.self) old.reserved mid.reserved same told_all.reserved),
             g.S.Networked.keeps_on old.session.now mid.session.now c.remote_input.new.self told_all.keeps said.keeps,
+          ),
+        ),
+      ),
+    )
+
+pub returns-in-Err-remote_input-clause-keeps : goal.returns-in-Err-remote_input-clause-keeps
+returns-in-Err-remote_input-clause-keeps g c =
+    let old = c.args.self.now in
+    let mid = c.tell_all.new.self in
+    let seen = g.S.Networked.seen in
+    let told_all = c.tell_all.ensures in
+    let said = c.remote_input.ensures in
+    let same = c.in-Err-remote_input.ensures.refused.unchanged in
+    let waits = said_waits (seen mid.session.now) (seen c.remote_input.new.self) c.args.player c.args.frame c.args.word
+    (remote_refusal (seen mid.session.now) c.args.player c.args.frame) mid.held.now c.remote_input.result said.heard said.refused in (
+      told_all.same_session,
+      (
+        told_all.same_held,
+        (
+          wait_more (seen old.session.now) (seen mid.session.now) (seen c.remote_input.new.self) old.held.now mid.held.now mid.held.now
+              told_all.waits waits,
+          (
+            after_all (seen old.session.now) (seen mid.session.now) (seen c.remote_input.new.self) old.held.now.words.items
+                mid.held.now.words.items old.reserved mid.reserved told_all.session told_all.none
+                (same_room (seen mid.session.now) (seen c.remote_input.new.self) old.reserved mid.reserved same told_all.reserved),
+            g.S.Networked.keeps_on old.session.now mid.session.now c.remote_input.new.self told_all.keeps said.keeps,
+          ),
+        ),
+      ),
+    )
+
+pub returns-in-Err-clause-keeps : goal.returns-in-Err-clause-keeps
+returns-in-Err-clause-keeps g c =
+    let old = c.args.self.now in
+    let mid = c.make_room.new.self in
+    let seen = g.S.Networked.seen in
+    let i = c.in-Err.ensures in
+    let same : told (seen mid.session.now) mid.held.now.words.items ≡ told (seen old.session.now) old.held.now.words.items =
+    ap (λ s. told (seen s) mid.held.now.words.items) i.unmade ∙ ap (told (seen old.session.now)) i.words in (
+      i.same_session,
+      (
+        i.same_held,
+        (
+          i.waits,
+          (
+            same_room (told (seen old.session.now) old.held.now.words.items) (told (seen mid.session.now) mid.held.now.words.items) old.reserved
+                mid.reserved same i.reserved,
+            i.keeps,
           ),
         ),
       ),

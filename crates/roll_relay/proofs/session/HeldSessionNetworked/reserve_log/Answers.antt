@@ -1,9 +1,13 @@
-use Rattle.std.proofs.Common.{◌∙◌, ◌+◌, ap, arith, max, min, refl, sym}
+use Rattle.std.proofs.Common.{◌∙◌, ◌+◌, List, ap, arith, max, min, refl, subst, sym}
+use Rattle.std.specs.List.{Contains}
 use Rattle.std.specs.Prelude.{unwrap_or}
+use Rattle.roll_frame.specs.declared.entry.Entry.{Entry}
 use Rattle.roll_frame.specs.declared.refusal.Refusal.TheVariants.{NoMemory}
 use Rattle.roll_session.proofs.Following.{small_of}
 use Rattle.roll_session.specs.Seen.{Seen}
-use Rattle.roll_relay.specs.Told.{roomless}
+use Rattle.roll_relay.specs.Told.{roomless, told}
+use Rattle.roll_relay.specs.Waits.{wait_on}
+use Rattle.roll_relay.proofs.Rooms.{made_room}
 use Rattle.roll_relay.proofs.Same.{same_held}
 use Rattle.roll_relay.proofs.Told.{as_told_same, fits_same, reserve_same, told_stays}
 use Rattle.roll_relay.proofs.session.HeldSessionNetworked.reserve_log.Goals as goal
@@ -51,3 +55,31 @@ returns-in-Err-clause-refused g c =
 pub returns-in-Err-clause-unchanged : goal.returns-in-Err-clause-unchanged
 returns-in-Err-clause-unchanged g c =
     same_held _ _ (λ i. record c.args.self.now.session { now = c.in-Err.ensures.unchanged i }) refl refl
+
+pub returns-in-Ok-clause-keeps : goal.returns-in-Ok-clause-keeps
+returns-in-Ok-clause-keeps g c =
+    let old = c.args.self.now in
+    let words = old.held.now.words.items in
+    let s = g.S.Networked.seen old.session.now in
+    let later = g.S.Networked.seen c.reserve_log.new.self in
+    let small = small_of g.S.Networked.step s c.laws.ensures in
+    let made = c.in-Ok.ensures.reserved in
+    let was = told_stays s words in
+    let kept = told_stays later words in
+    let logged = ap (λ (x : Seen). x.core.logged) made in
+    let room = ap (λ (x : Seen). x.reserved) made in
+    let log = ap (λ (x : Seen). x.log) made in (
+      refl,
+      (
+        refl,
+        (
+          wait_on s later old.held.now (λ entry there. subst (λ (l : List Entry). Contains l entry) (sym log) there),
+          (
+            made_room (told s words) (told later words) old.reserved c.max-self.result c.args.events (omega (arith, was.logged, kept.logged, logged))
+                (omega (arith, was.reserved, kept.reserved, room, small.most, c.in-Ok.ensures.fits, c.saturating_add.ensures, c.len-waiting.ensures.value))
+                c.max-self.ensures,
+            c.reserve_log.ensures.keeps,
+          ),
+        ),
+      ),
+    )
