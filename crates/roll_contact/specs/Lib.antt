@@ -3,5 +3,6 @@ pub mod Terms
 pub mod Keys
 pub mod Contacts
 pub mod Seals
+pub mod Sealers
 pub mod Windows
 pub mod Laws
