@@ -101,11 +101,11 @@ static int32_t make(guesser *self, fazgrond_session *session, states *states, ui
 }
 
 int32_t guesser_turn(guesser *self, fazgrond_session *session, states *states, uint32_t gone) {
+    if (self->most == 0)
+        return FAZGROND_OK;
     ranking rankings[FAZGROND_PLAYERS] = { 0 };
     came came = CAME_KEPT;
     int32_t why = FAZGROND_OK;
-    if (self->most == 0)
-        return FAZGROND_OK;
     for (uint32_t place = 0; place < self->players; place++)
         if (place != self->me) {
             note(self, session, place);
