@@ -18,7 +18,7 @@ returns-in-Ok-Ok-clause-sent g c = record {
   gives = (
     c.in-Ok-Ok.ensures.sent,
     (λ k. record c.args.self.now { peer = c.send.new.peer; held = c.send.ensures.same k; relay = c.send.new.relay }),
-    c.send.ensures.session,
+    c.in-Ok-Ok.ensures.session,
   );
   sent_is = ap (λ (said : Said). sent_of (text_of said)) (sym c.in-Ok-Ok.field-0-is);
 }
@@ -29,7 +29,7 @@ returns-in-Ok-Err-clause-sent g c = record {
   gives = (
     c.in-Ok-Err.ensures.sent,
     (λ k. record c.args.self.now { peer = c.send.new.peer; held = c.send.ensures.same k; relay = c.send.new.relay }),
-    c.send.ensures.session,
+    c.in-Ok-Err.ensures.session,
   );
   sent_is = ap (λ (said : Said). sent_of (text_of said)) (sym c.in-Ok-Err.field-0-is);
 }
