@@ -12,7 +12,7 @@ use roll_session::{Call, Networked};
 
 /// Whose words are given again: the epoch that begins, this machine's number in it, and the session of the epoch before.
 #[derive(Drop)]
-pub struct Again<'a, P> {
+pub(crate) struct Again<'a, P> {
     /// How the epoch that begins opens.
     pub terms: &'a Terms,
     /// This machine's number in it.
@@ -24,7 +24,7 @@ pub struct Again<'a, P> {
 impl<P: Networked> Again<'_, P> {
     /// Gives a session that has just begun the words again that own players gave past the end of the epoch before, and runs the frames
     /// that were run past it, as far as the session takes that. Says whether it took all.
-    pub fn play<S: Plays>(&self, session: &mut S, end: u32) -> bool
+    pub(crate) fn play<S: Plays>(&self, session: &mut S, end: u32) -> bool
         ensures { ArePlayed S.makes S.declines session.old
             (given_again self.now.terms.now self.now.me (P.seen self.now.past.now) end) session.new
             result }

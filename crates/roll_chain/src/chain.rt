@@ -10,13 +10,8 @@ use roll_mesh::{MACHINE_LIMIT, Mesh, PLAYER_LIMIT};
 use roll_peer::{MatchSettings, Peer};
 
 /// A match that goes on in epochs: parts of it whose machines, owners, delays and threshold stay the same. It stands beside the network
-/// of this epoch, a [`Peer`], and the session beside both: give its calls always the same ones.
-///
-/// A program opens it for the epoch in which it begins, and the peer with its `settings`. In each turn, before that of the peer, it calls
-/// `judge`, and calls `over`. When the epoch is over, it starts the session of the next one as `opening` says,
-/// and calls `follow`. The peer of the epoch before and its session it keeps as long as `is_past_over` is false: it sends what that peer
-/// sends, too, gives it what this one finds not sealed, and calls `share` in each turn, before that of the peer. So who hasn't come yet is
-/// told how the epoch before ended, and isn't silent in this one.
+/// of this epoch, a [`Peer`], and the session beside both: give its calls always the same ones. A program opens it for the epoch in
+/// which it begins, and the network with its `settings`.
 #[derive(Clone, Copy, Debug)]
 pub struct Chain {
     pub(crate) base: MatchSettings,
@@ -81,7 +76,7 @@ impl Chain {
 
     /// Whether the epoch before needn't be told on: each other machine that isn't gone has come to this one, since a word of one of its
     /// players is known.
-    pub fn is_past_over(&self, peer: &Peer) -> bool
+    pub(crate) fn is_past_over(&self, peer: &Peer) -> bool
         ensures { result ≡ is_past_over peer.now }
     {
         for machine in 0..MACHINE_LIMIT as u8 {

@@ -80,7 +80,7 @@ impl Chain {
     }
 
     /// Where the epoch ends, and by which mark, if that is known: all words before it are known then.
-    pub fn end(&self, peer: &Peer) -> Option<Ending>
+    pub(crate) fn end(&self, peer: &Peer) -> Option<Ending>
         ensures found { IfSome result (IsEnding self.now peer.now) }
         ensures none { IfNone result ((e : Ending) → IsEnding self.now peer.now e → ⊥) }
     {

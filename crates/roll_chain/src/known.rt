@@ -7,7 +7,7 @@ use roll_frame::{Cell, Row};
 use roll_session::{Networked, Source};
 
 /// The timeline's row of a frame, if it is known: each player's word of that frame has come, or the player has left before it.
-pub fn known_row<S: Networked>(session: &S, frame: u32) -> Option<Row>
+pub(crate) fn known_row<S: Networked>(session: &S, frame: u32) -> Option<Row>
     ensures { result ≡ known_row (S.seen session.now).core.players frame }
 {
     session.laws();

@@ -21,16 +21,11 @@ mod seating;
 mod sharing;
 mod state;
 
-pub use again::Again;
 pub use chain::Chain;
 pub use comers::ticket_for;
 pub use epochs::Epochs;
 pub use going_on_here::go_on;
-pub use known::known_row;
 pub use laws::{it_is_later, of_one_number_one_next, over_stays, they_go_on_at_any_time};
 pub use onward_refusal::{OnwardFault, OnwardRefusal};
 pub use past::Past;
-pub use plays::Plays;
-pub use seam::Opening;
 pub use seam_refusal::SeamRefusal;
-pub use state::state_at;

@@ -10,8 +10,7 @@ pub enum OnwardRefusal {
     /// This epoch isn't over.
     #[error("the epoch isn't over")]
     NotOver,
-    /// There is no state at the end, as [`state_at`](crate::state_at) has it, or the session of the next epoch doesn't start from it, as if
-    /// this machine isn't in that epoch.
+    /// There is no state at the end, or the session of the next epoch doesn't start from it, as if this machine isn't in that epoch.
     #[error("{0}")]
     Session(Refusal),
     /// The network of the next epoch doesn't open.

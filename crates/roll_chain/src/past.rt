@@ -33,7 +33,7 @@ impl<S: Networked> Past<S> {
     /// # Errors
     ///
     /// As of the network's call.
-    pub fn receive(&mut self, bytes: &[u8], now: u32) -> Result<(), Ignored>
+    pub(crate) fn receive(&mut self, bytes: &[u8], now: u32) -> Result<(), Ignored>
         ensures { Hears S.seen S.step bytes.now now self.old self.new result }
     {
         let Past {
@@ -49,7 +49,7 @@ impl<S: Networked> Past<S> {
     /// # Errors
     ///
     /// As of the network's call.
-    pub fn send(
+    pub(crate) fn send(
         &mut self,
         machine: u8,
         now: u32,
@@ -66,7 +66,7 @@ impl<S: Networked> Past<S> {
     }
 
     /// What goes out beside that, and to which machine.
-    pub fn next(&mut self) -> Option<(u8, ArrayVec<u8, DATAGRAM_LIMIT>)>
+    pub(crate) fn next(&mut self) -> Option<(u8, ArrayVec<u8, DATAGRAM_LIMIT>)>
         ensures { IsNextOf self.old self.new (option_map (λ x. (x.0, x.1.items)) result) }
     {
         self.relay.next(&self.peer)

@@ -7,7 +7,7 @@ use roll_requests::Elsewhere;
 use roll_session::{Call, Request, Session};
 
 /// A session that takes the calls of its own program, wherever its game is.
-pub trait Plays {
+pub(crate) trait Plays {
     ghost use Rattle.roll_session.specs.declared.event.Call.{Call};
 
     /// What a call makes of it that is taken.

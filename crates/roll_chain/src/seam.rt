@@ -26,7 +26,7 @@ use std::mem;
 
 /// How the next epoch opens at this machine.
 #[derive(Clone, Copy, Debug)]
-pub struct Opening {
+pub(crate) struct Opening {
     /// Its terms.
     pub terms: Terms,
     /// The settings with which its session starts. It has no local player if this machine isn't in the epoch: it left this one, for the
@@ -40,7 +40,7 @@ pub struct Opening {
 
 impl Chain {
     /// How the next epoch opens, if this one is over for this machine.
-    pub fn opening<S: Networked>(&self, peer: &Peer, session: &S) -> Option<Opening>
+    pub(crate) fn opening<S: Networked>(&self, peer: &Peer, session: &S) -> Option<Opening>
         ensures opens { IfSome result (λ opening. (e : Ending) × IsOver (S.seen session.now)
             self.now peer.now e × (opening ≡ opening_after (S.seen session.now) self.now peer.now
             e)) }
@@ -73,7 +73,7 @@ impl Chain {
     /// # Errors
     ///
     /// As of a peer that is opened. Nothing is changed then.
-    pub fn follow<S: Networked>(
+    pub(crate) fn follow<S: Networked>(
         &mut self,
         alloc: Global,
         peer: &mut Peer,

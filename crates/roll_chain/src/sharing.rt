@@ -15,7 +15,7 @@ type Machines = [bool; MACHINE_LIMIT];
 impl Chain {
     /// Of the machines that are in this epoch and were in the one before: who is heard there is heard here too, so that it isn't silent
     /// here before it has come; and who is gone in one is gone in both from now on.
-    pub fn share(&self, peer: &mut Peer, past: &mut Peer)
+    pub(crate) fn share(&self, peer: &mut Peer, past: &mut Peer)
         ensures peer { peer.new ≡ parted_until (gone_in_either self.now peer.old past.old)
             MACHINE_LIMIT (heard_until self.now.stays past.old MACHINE_LIMIT peer.old) }
         ensures past { past.new ≡ parted_until (gone_in_either self.now peer.old past.old)

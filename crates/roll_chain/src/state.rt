@@ -19,7 +19,7 @@ use roll_session::Session;
 ///
 /// `InvalidRequest` if the frame lies before the settled one; `Gap` if a word before the frame hasn't come; `NoMemory` if the game
 /// refuses.
-pub fn state_at<G: Game>(
+pub(crate) fn state_at<G: Game>(
     game: &mut G,
     session: &Session<G>,
     frame: u32,
