@@ -5,3 +5,4 @@ pub mod Each
 pub mod Judged
 pub mod Later
 pub mod Through
+pub mod InTime

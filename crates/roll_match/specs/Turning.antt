@@ -4,8 +4,9 @@ use Rattle.roll_carry.specs.Carrying.{turned, Carrying}
 use Rattle.roll_chain.specs.Judging.{IsOver}
 use Rattle.roll_epoch.specs.declared.marks.Ending.{Ending}
 use Rattle.roll_relay.specs.Heard.{beside, PollsHeld}
-use Rattle.roll_relay.specs.Passing.{due_then, Does, Turn}
-use Rattle.roll_relay.specs.Told.{roomier, told, IsHeldFault}
+use Rattle.roll_relay.specs.Passing.{due_then, Does, Hand, Turn}
+use Rattle.roll_relay.specs.Told.{are_next, roomier, told, IsHeldFault}
+use Rattle.roll_relay.specs.Turns.{lessened}
 use Rattle.roll_relay.specs.Waits.{Waits}
 use Rattle.roll_relay.specs.declared.fault.HeldFault.{HeldFault}
 use Rattle.roll_chain.specs.GoingOnHere.{IsWhyNotGone as IsWhyNotOnward}
@@ -88,11 +89,20 @@ module _ {S P E L : Type 0} where
       × (new ≡ record old { held = new.held })
   TellsDue seen before after old new (Err why) = IsHeldFault (seen before) old.held.words.items why × (after ≡ before) × (new ≡ old)
 
+  -- the session is told the first so many that wait, or there is no room for all of them
+  abbrev pub TellsFirst : (seen : S → Seen) → (count : ℕ) → (before after : S) → (old new : Match S P E L) → Result Unit HeldFault → Type 0
+  TellsFirst seen count before after old new (Ok done) =
+      (are_next (seen before) old.held.words.items ≡ true)
+      × Does (Hand count) (record { seen = seen before; held = old.held }) (record { seen = seen after; held = new.held })
+      × (new ≡ record old { held = new.held })
+  TellsFirst seen count before after old new (Err why) = IsHeldFault (seen before) old.held.words.items why × (after ≡ before) × (new ≡ old)
+
   -- the session is told all that waits, or there is no room for it
   abbrev pub TellsAll : (seen : S → Seen) → (before after : S) → (old new : Match S P E L) → Result Unit HeldFault → Type 0
   TellsAll seen before after old new (Ok done) =
       (seen after ≡ told (roomier (length old.held.words.items) (seen before)) old.held.words.items)
-      × (new.held.words.items ≡ []) × (new.held.turns ≡ old.held.turns) × (new ≡ record old { held = new.held })
+      × (new.held.words.items ≡ []) × (new.held.waited.items ≡ lessened (length old.held.words.items) old.held.waited.items)
+      × (new.held.turns ≡ old.held.turns) × (new ≡ record old { held = new.held })
   TellsAll seen before after old new (Err why) = IsHeldFault (seen before) old.held.words.items why × (after ≡ before) × (new ≡ old)
 
   -- if the epoch is over, the session is told all that waits

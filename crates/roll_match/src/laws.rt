@@ -3,9 +3,12 @@ ghost use Rattle.roll_match.specs.Deeds.{WhatBeginsIsCalled, WhatIsHeardIsCalled
 ghost use Rattle.roll_requests.specs.Ended.{Ended};
 ghost use Rattle.roll_session.specs.Seen.{Seen};
 ghost use Rattle.roll_match.specs.Epochs.{EachIsPlayed};
+ghost use Rattle.roll_match.specs.InTime.{NoInputWaitsLonger};
 ghost use Rattle.roll_match.specs.Judged.{SoundStays, WhatIsJudged};
 ghost use Rattle.roll_match.specs.Later.{WhatEndedStays, WhatIsKnownStays};
 ghost use Rattle.roll_match.specs.OneMatch.{OneMatch, WhatGoesOn};
+
+use crate::lasting::Lasting;
 
 /// Two machines that stay in a match through its epochs play one match in all of them: in each epoch they settle the same rows, and
 /// come to the same states where their games are alike; they leave each epoch by the same end, and open the next one alike. So it
@@ -37,6 +40,13 @@ pub fn what_begins_is_called()
 /// this epoch, and the datagram is what that call sends.
 pub fn what_is_sent_is_called()
     ensures { WhatIsSentIsCalled }
+{}
+
+/// Whatever is called of a match and of its session: once there were as many turns as inputs may wait, or their epoch has ended, their
+/// session was told each input that waited before. A turn counts in which `handed` is no error.
+pub fn no_input_waits_longer<S: Lasting>()
+    ensures { NoInputWaitsLonger S.Engine S.step S.Past.step S.seen S.Past.seen S.has_gone_on
+        S.has_not_gone_on }
 {}
 
 /// What `one_match` supposes of a machine that goes on in its next epoch is what the call answers that goes on.

@@ -15,11 +15,13 @@ mod showing;
 mod telling;
 mod turning;
 mod unheard;
+mod waiting;
 
 pub use lasting::Lasting;
 pub use laws::{
-    each_is_played, one_match, what_begins_is_called, what_ended_stays, what_goes_on,
-    what_is_heard_is_called, what_is_judged, what_is_known_stays, what_is_sent_is_called,
+    each_is_played, no_input_waits_longer, one_match, what_begins_is_called, what_ended_stays,
+    what_goes_on, what_is_heard_is_called, what_is_judged, what_is_known_stays,
+    what_is_sent_is_called,
 };
 pub use one::Match;
 pub use turning::Turn;
