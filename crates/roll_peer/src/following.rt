@@ -11,6 +11,7 @@ ghost use Rattle.roll_peer.specs.Settings.{are_delayed_alike, seat_of};
 use crate::comparison::Comparison;
 use crate::cut_off::CutOff;
 use crate::digests::Digests;
+use crate::keys::sealers;
 use crate::opening::take_seat;
 use crate::pace::Pace;
 use crate::peer::Peer;
@@ -99,6 +100,8 @@ impl Peer {
                 opened: self.clock.moment,
                 strangers: Strangers::new(),
                 follows: true,
+                sealers: sealers(),
+                openers: sealers(),
             }),
             Err(why) => Err(why),
         }

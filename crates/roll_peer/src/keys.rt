@@ -6,6 +6,14 @@ ghost use Rattle.roll_peer.specs.Sending.{can_carry, carried_key, carrier_key};
 use crate::peer::Peer;
 use crate::settings::MatchSettings;
 use roll_contact::Key;
+use roll_contact::seal::Sealer;
+use roll_mesh::MACHINE_LIMIT;
+use std::array;
+
+/// For each machine one that keeps the states of a key, at first of one by which nothing is sealed.
+pub(crate) fn sealers() -> [Sealer; MACHINE_LIMIT] {
+    array::from_fn(|_| Sealer::new(Key::of_hellos(0)))
+}
 
 impl Peer {
     /// What the match was opened with.

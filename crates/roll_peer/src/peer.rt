@@ -16,6 +16,7 @@ use crate::comparison::Comparison;
 use crate::cut_off::CutOff;
 use crate::digests::Digests;
 use crate::event::{Events, PeerEvent};
+use crate::keys::sealers;
 use crate::marking::KnownMarks;
 use crate::opening::take_seat;
 use crate::pace::Pace;
@@ -23,6 +24,7 @@ use crate::refusal::{OpenRefusal, OtherSession};
 use crate::settings::MatchSettings;
 use crate::stall::Stall;
 use crate::strangers::Strangers;
+use roll_contact::seal::Sealer;
 use roll_contact::{Clock, Contact, Stage};
 use roll_member::Member;
 use roll_mesh::{MACHINE_LIMIT, Mesh, MeshRefusal, PLAYER_LIMIT};
@@ -60,9 +62,11 @@ pub struct Peer {
     pub(crate) opened: u32,
     pub(crate) strangers: Strangers,
     pub(crate) follows: bool,
+    pub(crate) sealers: [Sealer; MACHINE_LIMIT],
+    pub(crate) openers: [Sealer; MACHINE_LIMIT],
 }
 
-/// A clause sees all of it.
+/// A clause sees all of it but what it keeps of the keys by which datagrams for each machine were sealed last, and those of it.
 impl Model for Peer {
     ghost use Rattle.std.specs.Prelude.{◌≡◌, ◌<◌, ◌≤◌, true};
     ghost use Rattle.roll_mesh.specs.declared.limits.TheConstants.{MACHINE_LIMIT};
@@ -153,6 +157,8 @@ impl Peer {
                 opened: settings.first_moment(),
                 strangers: Strangers::new(),
                 follows: false,
+                sealers: sealers(),
+                openers: sealers(),
             }),
             Err(why) => Err(why),
         }

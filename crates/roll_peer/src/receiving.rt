@@ -16,7 +16,7 @@ use crate::judging::{are_no_more, is_inside};
 use crate::marking::offered_marks;
 use crate::peer::Peer;
 use crate::received::{Ignored, Received};
-use roll_contact::seal::unseal;
+use roll_contact::seal::Sealer;
 use roll_contact::{Contact, Key};
 use roll_member::Taken;
 use roll_mesh::{Heard, MACHINE_LIMIT, Packet};
@@ -183,14 +183,19 @@ impl Peer {
 
     /// What bytes hold that a machine sent.
     #[tactic(auto, using(crate::proofs::Said::opened_is))]
-    fn body_of(&self, sender: u8, bytes: &[u8]) -> Result<Body, Ignored>
+    fn body_of(&mut self, sender: u8, bytes: &[u8]) -> Result<Body, Ignored>
         requires place { sender < MACHINE_LIMIT }
         requires sent { sender ≡ sender_of bytes.now }
-        ensures opened { IsOpened result (opened self.now bytes.now) }
+        ensures opened { IsOpened result (opened self.old bytes.now) }
         ensures spelled { IfOk result (λ body. is_spelled_in (content body) ≡ true) }
+        ensures same { self.new ≡ self.old }
     {
         match self.key_of(sender, byte_of(bytes, KIND_AT)) {
-            Some(key) => open_by(self.settings.takes_marks, &key, bytes),
+            Some(key) => {
+                let sealer = &mut self.openers[usize::from(sender)];
+                sealer.turn_to(&key);
+                open_by(self.settings.takes_marks, sealer, bytes)
+            }
             None => Err(Ignored::NotSealed),
         }
     }
@@ -449,11 +454,11 @@ fn byte_of(bytes: &[u8], place: usize) -> u8
 }
 
 /// What bytes hold, if they are sealed by a key, and if no word has a mark where none is taken.
-fn open_by(takes_marks: bool, key: &Key, bytes: &[u8]) -> Result<Body, Ignored>
-    ensures opened { IsOpened result (open_by takes_marks (Some key.now) bytes.now) }
+fn open_by(takes_marks: bool, sealer: &Sealer, bytes: &[u8]) -> Result<Body, Ignored>
+    ensures opened { IsOpened result (open_by takes_marks (Some sealer.now) bytes.now) }
     ensures spelled { IfOk result (λ body. is_spelled_in (content body) ≡ true) }
 {
-    let Some(text) = unseal(bytes, key) else {
+    let Some(text) = sealer.unseal(bytes) else {
         return Err(Ignored::NotSealed);
     };
     match read(takes_marks, &text) {

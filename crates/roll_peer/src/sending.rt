@@ -78,10 +78,11 @@ impl Peer {
     }
 
     /// The bytes for a machine.
-    fn bytes_for<S: Networked>(&self, session: &S, machine: u8) -> ArrayVec<u8, DATAGRAM_LIMIT>
-        requires tied { IsTied (S.seen session.now) self.now.member.mesh }
+    fn bytes_for<S: Networked>(&mut self, session: &S, machine: u8) -> ArrayVec<u8, DATAGRAM_LIMIT>
+        requires tied { IsTied (S.seen session.now) self.old.member.mesh }
         requires place { machine < MACHINE_LIMIT }
-        ensures { IsSent (S.seen session.now) self.now machine result.items }
+        ensures sent { IsSent (S.seen session.now) self.old machine result.items }
+        ensures same { self.new ≡ self.old }
     {
         let contact = self.contacts[usize::from(machine)];
         if contact.says_hello() {
@@ -91,7 +92,8 @@ impl Peer {
                 .hello(&self.settings.opening(), contact.hello_echo());
             self.sealed_for(machine, Body::Hello(hello))
         } else {
-            self.sealed_for(machine, Body::Play(self.play_for(session, machine)))
+            let play = self.play_for(session, machine);
+            self.sealed_for(machine, Body::Play(play))
         }
     }
 
@@ -112,14 +114,18 @@ impl Peer {
     }
 
     /// A datagram of this machine for another.
-    fn sealed_for(&self, machine: u8, body: Body) -> ArrayVec<u8, DATAGRAM_LIMIT>
+    fn sealed_for(&mut self, machine: u8, body: Body) -> ArrayVec<u8, DATAGRAM_LIMIT>
         requires place { machine < MACHINE_LIMIT }
         requires whole { is_whole (content body) ≡ true }
-        ensures said { result.items ≡ text_for self.now machine (content body) }
-        ensures fits { Fits (message_by (key_for self.now machine (content body))
-            self.now.settings.me (content body)) }
+        ensures said { result.items ≡ text_for self.old machine (content body) }
+        ensures fits { Fits (message_by (key_for self.old machine (content body))
+            self.old.settings.me (content body)) }
+        ensures same { self.new ≡ self.old }
     {
-        say(&self.key_for(machine, &body), self.settings.me, body)
+        let key = self.key_for(machine, &body);
+        let sealer = &mut self.sealers[usize::from(machine)];
+        sealer.turn_to(&key);
+        sealer.say(self.settings.me, body)
     }
 
     /// Whether nothing is sent to a machine: there is none of this number, it is this one, or it is gone.
@@ -227,6 +233,7 @@ impl Peer {
         if self.is_lost(machine) || !self.contacts[usize::from(machine)].is_playing() {
             return None;
         }
-        Some(self.sealed_for(machine, Body::Bye { why }))
+        let body = Body::Bye { why };
+        Some(say(&self.key_for(machine, &body), self.settings.me, body))
     }
 }

@@ -2,8 +2,8 @@ use Rattle.std.proofs.Common.{◌∙◌, refl, sym}
 use Rattle.roll_wire.specs.Spelling.{turn, Greets, Plays}
 use Rattle.roll_peer.proofs.peer.Peer.bytes_for.Goals as goal
 
-pub returns-then-says_hello : goal.returns-then-says_hello
-returns-then-says_hello g c = record {
+pub returns-then-says_hello-clause-sent : goal.returns-then-says_hello-clause-sent
+returns-then-says_hello-clause-sent g c = record {
   content = Greets c.hello-hello.result;
   fits = (
     rw (← c.self.view_is, ← c.from.ensures) (sym c.says_hello.ensures ∙ c.if-says_hello.true),
@@ -13,12 +13,12 @@ returns-then-says_hello g c = record {
   text = c.sealed_for.ensures.said;
 }
 
-pub returns-else-says_hello : goal.returns-else-says_hello
-returns-else-says_hello g c = record {
-  content = Plays (turn c.play_for.result);
+pub returns-else-says_hello-clause-sent : goal.returns-else-says_hello-clause-sent
+returns-else-says_hello-clause-sent g c = record {
+  content = Plays (turn c.play_for-play.result);
   fits = (
     rw (← c.self.view_is, ← c.from.ensures) (sym c.says_hello.ensures ∙ c.if-says_hello.false),
-    c.play_for.ensures.told,
+    c.play_for-play.ensures.told,
   );
   spelled = c.sealed_for-else-says_hello.ensures.fits;
   text = c.sealed_for-else-says_hello.ensures.said;

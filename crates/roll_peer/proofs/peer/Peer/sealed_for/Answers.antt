@@ -10,13 +10,13 @@ pub returns-clause-said : goal.returns-clause-said
 unfolding text_for
 returns-clause-said c =
     let peer : Peered = c.args.self.now in
-    let said : c.say.result.items ≡ said_by c.key_for.result peer.settings.me (content c.args.body) =
+    let said : c.say.result.items ≡ said_by c.turn_to.new.self peer.settings.me (content c.args.body) =
     rw (← c.self.view_is) c.say.ensures.said in
-    said ∙ ap (λ (key : Key). said_by key peer.settings.me (content c.args.body)) c.key_for.ensures
+    said ∙ ap (λ (key : Key). said_by key peer.settings.me (content c.args.body)) (c.turn_to.ensures ∙ c.key_for-key.ensures)
 
 pub returns-clause-fits : goal.returns-clause-fits
 returns-clause-fits c =
     let peer : Peered = c.args.self.now in
-    let fits : Fits (message_by c.key_for.result peer.settings.me (content c.args.body)) =
+    let fits : Fits (message_by c.turn_to.new.self peer.settings.me (content c.args.body)) =
     rw (← c.self.view_is) c.say.ensures.fits in
-    subst (λ (key : Key). Fits (message_by key peer.settings.me (content c.args.body))) c.key_for.ensures fits
+    subst (λ (key : Key). Fits (message_by key peer.settings.me (content c.args.body))) (c.turn_to.ensures ∙ c.key_for-key.ensures) fits
