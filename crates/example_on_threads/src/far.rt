@@ -1,19 +1,19 @@
-//! The other machine, on a thread of its own: a session, and the network of the match beside it.
-use crate::machine::{Fault, LAST_FRAME, MOST, buttons, digest, moment, open, the_match};
+//! The other machine, on a thread of its own: a session, and the match beside it.
+use crate::machine::{
+    Fault, LAST_FRAME, MOST, buttons, digest, moment, open, the_chain, the_match,
+};
 use crate::wire::Wire;
-use fazgrond::{Peer, PeerEvent, Refusal, Session};
+use fazgrond::{Match, PeerEvent, Refusal, Session, ends_in_roll};
 use game_fighter::{Fight, State};
 use std::alloc::Global;
 use std::sync::atomic::{AtomicBool, Ordering};
 use std::sync::{Arc, Wait};
 use std::thread;
 
-/// Its player, and its number and that of the first machine.
+/// Its player, and its number.
 const PLAYER: u8 = 2;
 
 const ME: u8 = 1;
-
-const OTHER: u8 = 0;
 
 /// Plays until the match is over: the state that is settled then.
 pub fn play<R: Wait>(
@@ -29,7 +29,7 @@ pub fn play<R: Wait>(
     played
 }
 
-/// Opens the network beside the session, and takes turns until the match is over.
+/// Opens the match beside the session, and takes turns until it is over.
 fn play_on<R: Wait>(
     rt: &R,
     alloc: Global,
@@ -37,14 +37,14 @@ fn play_on<R: Wait>(
     wire: &mut Wire,
     over: &AtomicBool,
 ) -> Result<State, Fault> {
-    let mut peer = Peer::open(alloc, session, the_match(ME))?;
+    let mut it = Match::open(alloc, session, the_match(ME), the_chain(ME), 0)?;
     let mut turn: u32 = 0;
     for _ in rt.forever() {
         if over.load(Ordering::SeqCst) {
             return Ok(*session.settled_state());
         }
         turn = turn.wrapping_add(1);
-        take_turn(session, &mut peer, wire, turn)?;
+        take_turn(alloc, session, &mut it, wire, turn)?;
         thread::yield_now();
     }
     unreachable!()
@@ -52,8 +52,9 @@ fn play_on<R: Wait>(
 
 /// A turn: hears what has come, plays a frame if it may, and tells the other machine.
 fn take_turn(
+    alloc: Global,
     session: &mut Session<Fight>,
-    peer: &mut Peer,
+    it: &mut Match<Session<Fight>>,
     wire: &mut Wire,
     turn: u32,
 ) -> Result<(), Fault> {
@@ -63,22 +64,27 @@ fn take_turn(
             break;
         };
         // What is ignored changed nothing of the match.
-        let _ = peer.receive(session, &bytes, now);
+        let _ = it.receive(session, &bytes, now);
     }
-    note_events(peer)?;
-    press(session, peer)?;
-    peer.turn(session, now)?;
-    peer.note_settled(session, digest(session.settled_state()))?;
-    if let Some(bytes) = peer.send(session, OTHER, now)? {
-        wire.send(&bytes)?;
+    it.turn(alloc, session, now).polled??;
+    if it.is_running() {
+        press(session)?;
+        play_frame(session)?;
     }
-    Ok(())
+    it.note(session, digest(session.settled_state()));
+    for _ in 0..MOST {
+        match it.next(session) {
+            Some((_, bytes)) => wire.send(&bytes)?,
+            None => break,
+        }
+    }
+    note_events(it)
 }
 
-/// Takes what the network tells.
-fn note_events(peer: &mut Peer) -> Result<(), Fault> {
+/// Takes what the match tells.
+fn note_events(it: &mut Match<Session<Fight>>) -> Result<(), Fault> {
     for _ in 0..MOST {
-        match peer.next_event() {
+        match it.event() {
             Some(PeerEvent::Desync { .. }) => return Err(Fault::Desync),
             Some(_) => {}
             None => break,
@@ -87,15 +93,27 @@ fn note_events(peer: &mut Peer) -> Result<(), Fault> {
     Ok(())
 }
 
-/// Gives the word of the buttons, once the match has begun.
-fn press(session: &mut Session<Fight>, peer: &Peer) -> Result<(), Refusal> {
+/// Gives the word of the buttons.
+fn press(session: &mut Session<Fight>) -> Result<(), Refusal> {
     let frame = session.frame();
-    if frame == LAST_FRAME || !peer.is_running() {
+    if frame == LAST_FRAME {
         return Ok(());
     }
     match session.add_local_input(PLAYER, buttons(PLAYER, frame)) {
         // Too far ahead of what is confirmed.
         Ok(()) | Err(Refusal::PredictionThreshold) => Ok(()),
+        Err(why) => Err(why),
+    }
+}
+
+/// Goes to the next frame if the word of this one is there; else rolls back, if anything came since the last time.
+fn play_frame(session: &mut Session<Fight>) -> Result<(), Refusal> {
+    match session.advance_frame() {
+        Err(Refusal::LocalInputMissing) if !ends_in_roll(session.log()) => {
+            session.synchronize_input()?;
+            Ok(())
+        }
+        Ok(_) | Err(Refusal::LocalInputMissing) => Ok(()),
         Err(why) => Err(why),
     }
 }

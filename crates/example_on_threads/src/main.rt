@@ -146,7 +146,7 @@ where
     let for_far = Arc::try_clone(&over)?;
     let mut side = Side::new(alloc, host, near)?;
     let handle = start(*rt, alloc, far, for_far)?;
-    let played = side.play(rt, host);
+    let played = side.play(rt, alloc, host);
     // The other machine plays on until then.
     over.store(true, Ordering::SeqCst);
     let there = handle.join(rt);

@@ -1,12 +1,14 @@
-//! This side of the match: its frame loop, over a host with workers and the network of the match beside the host's session. What
+//! This side of the match: its frame loop, over a host with workers and the match beside the host's session. What
 //! the other presses is held back from the session until the workers have run its frames, so that a rollback runs none.
 ghost use Rattle.std.specs.Prelude.{◌≡◌};
 ghost use Rattle.fazgrond.specs.Hosted.{places_of};
 
-use crate::machine::{Fault, LAST_FRAME, MOST, buttons, digest, moment, the_match};
+use crate::machine::{Fault, LAST_FRAME, MOST, buttons, digest, moment, the_chain, the_match};
 use crate::wire::Wire;
-use fazgrond::relaying::{Held, HeldFault, Relay, RemoteWord};
-use fazgrond::{Feed, Habits, Host, Peer, PeerEvent, Refusal, Session, Spectator, ends_in_roll};
+use fazgrond::{
+    Feed, Habits, HeldFault, Host, Match, PeerEvent, Refusal, RemoteWord, Session, Spectator,
+    ends_in_roll,
+};
 use game_fighter::{Fight, State};
 use std::alloc::Global;
 use std::sync::Wait;
@@ -31,13 +33,9 @@ const GUESSES: usize = 4;
 /// What the frame loop keeps beside the host.
 #[derive(Drop)]
 pub struct Side {
-    peer: Peer,
-    /// Of two machines none carries for the other.
-    relay: Relay,
+    it: Match<Session<Fight>>,
     wire: Wire,
-    /// The other's words that the session isn't told yet.
-    held: Held,
-    /// How many of these the workers were last handed.
+    /// How many words that wait for the session the workers were last handed.
     handed: usize,
     turn: u32,
     /// How many turns more this side waits for the other.
@@ -54,16 +52,13 @@ pub struct Side {
 
 impl Side {
     pub fn new(alloc: Global, host: &Host<Fight>, wire: Wire) -> Result<Side, Fault> {
-        let peer = Peer::open(alloc, host.session(), the_match(ME))?;
-        let relay = Relay::open(alloc, &peer)?;
+        let it = Match::open(alloc, host.session(), the_match(ME), the_chain(ME), TURNS)?;
         let mut feed = Feed::new(alloc)?;
         let receiver = feed.add()?;
         match Spectator::new(Fight::new(), &Fight::opening(), receiver) {
             Ok(viewer) => Ok(Side {
-                peer,
-                relay,
+                it,
                 wire,
-                held: Held::new(TURNS).unwrap(),
                 handed: 0,
                 turn: 0,
                 wait: 0,
@@ -79,11 +74,16 @@ impl Side {
 
     /// Plays until the viewer has seen all frames and the other machine has all words: the state after them, and what the viewer
     /// saw.
-    pub fn play<R: Wait>(&mut self, rt: &R, host: &mut Host<Fight>) -> Result<(State, State), Fault>
+    pub fn play<R: Wait>(
+        &mut self,
+        rt: &R,
+        alloc: Global,
+        host: &mut Host<Fight>,
+    ) -> Result<(State, State), Fault>
         ensures { places_of host.new.pool ≡ places_of host.old.pool }
     {
         for _ in rt.forever() {
-            self.take_turn(host)?;
+            self.take_turn(alloc, host)?;
             if self.seen == LAST_FRAME && self.has_told_all() {
                 let seen = self.viewer.state().copied();
                 return Ok((
@@ -97,46 +97,52 @@ impl Side {
     }
 
     /// A turn of the frame loop.
-    fn take_turn(&mut self, host: &mut Host<Fight>) -> Result<(), Fault>
+    fn take_turn(&mut self, alloc: Global, host: &mut Host<Fight>) -> Result<(), Fault>
         ensures { places_of host.new.pool ≡ places_of host.old.pool }
     {
         self.turn = self.turn.wrapping_add(1);
         let now = moment(self.turn);
-        self.hear(host, now)?;
-        self.note_events()?;
-        self.held.poll(&mut self.peer, host.session_mut(), now)??;
+        self.hear(host, now);
         // What the workers ran.
         host.absorb();
         self.hand_over(host)?;
+        self.begin(alloc, host, now)?;
         self.press(host)?;
         self.play_frame(host)?;
         self.run_ahead(host);
-        self.tell(host, now)?;
+        self.tell(host)?;
+        self.note_events()?;
         self.show(host)?;
         Ok(())
     }
 
     /// Hears what has come: the other's words wait.
-    fn hear(&mut self, host: &mut Host<Fight>, now: u32) -> Result<(), HeldFault>
+    fn hear(&mut self, host: &mut Host<Fight>, now: u32)
         ensures { places_of host.new.pool ≡ places_of host.old.pool }
     {
         for _ in 0..MOST {
             let Some(bytes) = self.wire.receive() else {
                 break;
             };
-            let session = host.session_mut();
             // What is ignored changed nothing of the match.
-            let _ = self
-                .held
-                .receive(&mut self.relay, &mut self.peer, session, &bytes, now)?;
+            let _ = self.it.receive(host.session_mut(), &bytes, now);
         }
+    }
+
+    /// A turn of the match begins.
+    fn begin(&mut self, alloc: Global, host: &mut Host<Fight>, now: u32) -> Result<(), Fault>
+        ensures { places_of host.new.pool ≡ places_of host.old.pool }
+    {
+        let turned = self.it.turn(alloc, host.session_mut(), now);
+        turned.polled??;
+        turned.handed?;
         Ok(())
     }
 
-    /// Takes what the network tells: for how many turns to wait, and that the machines differ.
+    /// Takes what the match tells: for how many turns to wait, and that the machines differ.
     fn note_events(&mut self) -> Result<(), Fault> {
         for _ in 0..MOST {
-            match self.peer.next_event() {
+            match self.it.event() {
                 Some(PeerEvent::TimeSync { frames_ahead }) => self.wait = frames_ahead,
                 Some(PeerEvent::Desync { .. }) => return Err(Fault::Desync),
                 Some(_) => {}
@@ -150,10 +156,8 @@ impl Side {
     fn hand_over(&mut self, host: &mut Host<Fight>) -> Result<(), HeldFault>
         ensures { places_of host.new.pool ≡ places_of host.old.pool }
     {
-        let ready = ready(host.session(), self.held.waiting(), self.handed);
-        self.held.hand_over(host.session_mut(), ready)?;
-        self.held.turn(host.session_mut())?;
-        Ok(())
+        let ready = ready(host.session(), self.it.waiting(), self.handed);
+        self.it.hand_over(host.session_mut(), ready)
     }
 
     /// Gives the word of the buttons, once the match has begun, unless this side has to wait.
@@ -161,7 +165,7 @@ impl Side {
         ensures { places_of host.new.pool ≡ places_of host.old.pool }
     {
         let frame = host.session().frame();
-        if frame == LAST_FRAME || !self.peer.is_running() || self.is_to_wait() {
+        if frame == LAST_FRAME || !self.it.is_running() || self.is_to_wait() {
             return Ok(());
         }
         match host.add_local_input(PLAYER, buttons(PLAYER, frame)) {
@@ -182,7 +186,7 @@ impl Side {
     fn play_frame(&mut self, host: &mut Host<Fight>) -> Result<(), Refusal>
         ensures { places_of host.new.pool ≡ places_of host.old.pool }
     {
-        if !self.peer.is_running() {
+        if !self.it.is_running() {
             return Ok(());
         }
         match host.advance_frame() {
@@ -196,14 +200,14 @@ impl Side {
     fn run_ahead(&mut self, host: &mut Host<Fight>)
         ensures { places_of host.new.pool ≡ places_of host.old.pool }
     {
-        self.handed = self.held.waiting().len();
+        self.handed = self.it.waiting().len();
         if self.handed == 0 {
             self.guess(host);
             return;
         }
         let frame = host.session().frame();
         // If it is refused, the words are told in time all the same.
-        let _ = host.speculate_words(self.held.waiting(), frame);
+        let _ = host.speculate_words(self.it.waiting(), frame);
     }
 
     /// Has the workers run what comes of it if the other player goes on as it did, or changes as it often does. A guess that is
@@ -226,28 +230,23 @@ impl Side {
     }
 
     /// Tells the other machine what it lacks, and the digest of what is settled.
-    fn tell(&mut self, host: &mut Host<Fight>, now: u32) -> Result<(), Fault>
+    fn tell(&mut self, host: &mut Host<Fight>) -> Result<(), Fault>
         ensures { places_of host.new.pool ≡ places_of host.old.pool }
     {
         let session = host.session();
-        let digest = digest(session.settled_state());
-        self.peer.note_state_at(session.settled(), digest);
-        let sent = self.held.send(
-            &mut self.relay,
-            &mut self.peer,
-            host.session_mut(),
-            OTHER,
-            now,
-        )??;
-        if let Some(bytes) = sent {
-            self.wire.send(&bytes)?;
+        self.it.note(session, digest(session.settled_state()));
+        for _ in 0..MOST {
+            match self.it.next(host.session_mut()) {
+                Some((_, bytes)) => self.wire.send(&bytes)?,
+                None => break,
+            }
         }
         Ok(())
     }
 
     /// Whether the other machine said that it has all words of this side.
     fn has_told_all(&self) -> bool {
-        match self.peer.stats(OTHER) {
+        match self.it.stats(OTHER) {
             Some(stats) => stats.words_queued == 0,
             None => false,
         }
