@@ -1,6 +1,6 @@
 -- A session without a game.
 use Rattle.std.proofs.Common.{◌≡◌, ℕ, zero, ◌+◌, ◌-◌, ◌<◌, ◌≤◌, List, [], ◌∷◌, ◌++◌, take, length, get_or, map, refl, ap, sym, subst, ◌∙◌, arith, Option, None, Some, Bool, false, true, Result, Ok, Err}
-use Rattle.std.specs.Prelude.{◌==◌, ◌&&◌, All, filter, if◌then◌else◌, is_none, max, nat_le, nat_lt, option_map, unwrap_or, IfErr, IfSome, IsErrAnd, IsNone}
+use Rattle.std.specs.Prelude.{◌&&◌, All, filter, if◌then◌else◌, is_none, max, nat_le, nat_lt, option_map, unwrap_or, IfErr, IfSome, IsErrAnd, IsNone}
 use Rattle.std.proofs.lemmas.List.Elements.{All-filter}
 use Rattle.roll_frame.specs.Cells.{Rows}
 use Rattle.roll_frame.specs.Core.{Core}
@@ -10,15 +10,15 @@ use Rattle.roll_frame.specs.Paths.{begins_with, run}
 use Rattle.roll_frame.specs.Settings.{open_to_branches, start_refusal}
 use Rattle.roll_frame.specs.Timeline.{timeline}
 use Rattle.roll_frame.specs.declared.entry.Entry.{Entry}
-use Rattle.roll_frame.specs.declared.entry.Entry.TheVariants.{Local, Remote, Disconnect, Advance, Graft}
+use Rattle.roll_frame.specs.declared.entry.Entry.TheVariants.{Local, Remote, Disconnect, Advance, Graft, Partial}
 use Rattle.roll_frame.specs.declared.settings.Settings.{Settings}
-use Rattle.roll_frame.proofs.Timelines.{length_timeline, timeline_none_given}
+use Rattle.roll_frame.proofs.Timelines.{timeline_none_given}
 use Rattle.roll_inputs.specs.Boards.{Inputs, first_inputs}
 use Rattle.roll_inputs.specs.declared.heard.Heard.{Heard}
 use Rattle.roll_inputs.specs.declared.heard.Heard.TheVariants.{Taken as HeardNow, Repeated as HeardBefore}
 use Rattle.roll_laws.proofs.Glue.{replay-push}
 use Rattle.roll_plan.specs.Plans.{Planned}
-use Rattle.roll_tree.specs.SavedStates.{Saved, later, state_named}
+use Rattle.roll_tree.specs.SavedStates.{Saved, later}
 use Rattle.roll_session.specs.Calls.{entry_of, IsAdmitted, IsAllowed, IsInput, IsRoll, IsRollTo}
 use Rattle.roll_session.specs.Gameless.{bare_branch, route_refusal_of, seen_bare, still, unroomed, Bare, IsBare, KeepsAll, KeepsGiven, KeepsGrafted, KeepsRolled}
 use Rattle.roll_branch.specs.Routed.{AreStates, Routed}
@@ -42,7 +42,7 @@ use Rattle.roll_session.specs.declared.event.Call.TheVariants.{Sync as SyncCall,
 use Rattle.roll_session.specs.declared.way.Way.{Way}
 use Rattle.roll_session.proofs.Between.{values_settle}
 use Rattle.roll_session.proofs.Holding.{replay-nil, session_first}
-use Rattle.roll_session.proofs.Rolling.{all_held, some_is, whole}
+use Rattle.roll_session.proofs.Rolling.{whole}
 use Rattle.roll_session.proofs.Rows.{length-rows_from, settled-rows_from}
 
 -- what is kept at the start
@@ -78,6 +78,14 @@ bare_rolled settings log after planner call to is_to s =
     let same : Some zero ≡ option_map (λ rows. zero) (replay settings (log ++ entry_of call ∷ [])).shown = sym (ap (λ (c : Core). option_map (λ rows. zero) c.shown) (replay-push settings log (entry_of call)) ∙ roll_shown (replay settings log) call to is_to) in
     subst (IsSession {S = ℕ} (λ state. []) (λ snapshot. []) still [] settings (log ++ entry_of call ∷ []) after planner) same s
 
+-- and after a roll that the game refused
+pub bare_partial : {N : Type 0} (settings : Settings) (log : List Entry) (after : Standing N) (planner : Planned) (to made : ℕ)
+    → IsSession {S = ℕ} (λ state. []) (λ snapshot. []) still [] settings (log ++ Partial to made ∷ []) after planner None
+    → IsBare settings (log ++ Partial to made ∷ []) after planner
+bare_partial settings log after planner to made s =
+    let same : None ≡ option_map (λ rows. zero) (replay settings (log ++ Partial to made ∷ [])).shown = sym (ap (λ (c : Core). option_map (λ rows. zero) c.shown) (replay-push settings log (Partial to made))) in
+    subst (IsSession {S = ℕ} (λ state. []) (λ snapshot. []) still [] settings (log ++ Partial to made ∷ []) after planner) same s
+
 -- a call that rolls repeats nothing
 pub roll_allowed : (old mid : Seen) (call : Call) (heard : Heard) → IsRoll call → IsAdmitted still old mid call heard → IsAllowed still old call × (mid ≡ record old { reserved = max old.reserved 1 })
 roll_allowed old mid call HeardNow i a = a
@@ -92,7 +100,7 @@ same_settled inputs (Disconnect p) = refl
 same_settled inputs entry = refl
 
 -- a step to the next frame changes no settled row
-stepped_rows : (inputs : Inputs) (entry : Entry) → timeline (stepped_inputs inputs entry).players (stepped_inputs inputs entry).settled ≡ timeline inputs.players inputs.settled
+pub stepped_rows : (inputs : Inputs) (entry : Entry) → timeline (stepped_inputs inputs entry).players (stepped_inputs inputs entry).settled ≡ timeline inputs.players inputs.settled
 stepped_rows inputs Advance = timeline_none_given inputs.players inputs.settled
 stepped_rows inputs entry = refl
 
@@ -135,23 +143,9 @@ pub no_run : (rows : Rows) → run still [] rows ≡ []
 no_run [] = refl
 no_run (row ∷ rows) = no_run rows
 
-nil_from : (x : Value) (short long : Rows) → length short ≤ length long → run still x short ≡ [] → run still x long ≡ []
-nil_from x [] [] few h = h
-nil_from x (row ∷ short) [] few h = absurd (omega (arith, few))
-nil_from x short (row ∷ long) few h = no_run long
-
 module _ {N : Type 0} (s : Standing N) (way : Way) (g : IsGoing s way) where
   low : s.inputs.settled ≤ way.frame
   low = omega (arith, g.deepest)
-
-  -- from the roll's start on all states are worth the same
-  pub nil_later : (x : Value) → HaveValues (λ u. []) still x (timeline s.inputs.players s.inputs.settled) s.tree.states → (m : ℕ) → way.frame ≤ m → [] ≡ run still x (timeline s.inputs.players m)
-  nil_later x h m late =
-      let T : Rows = timeline s.inputs.players s.inputs.settled in
-      let u = some_is (state_named s.tree way.at) (λ v. v.path ≡ rows_from s.inputs.players s.inputs.settled (way.frame - s.inputs.settled)) g.here in
-      let here : [] ≡ run still x (timeline s.inputs.players way.frame) =
-      all_held (λ v. [] ≡ run still x (T ++ v.path)) (λ v. v.name == way.at) s.tree.states u.0 h u.1 ∙ ap (λ (q : Rows). run still x (T ++ q)) u.2 ∙ ap (run still x) (whole s.inputs.players s.inputs.settled way.frame low) in
-      sym (nil_from x (timeline s.inputs.players way.frame) (timeline s.inputs.players m) (omega (arith, late, length_timeline s.inputs.players way.frame, length_timeline s.inputs.players m)) (sym here))
 
   module _ (states : List N) (after : Standing N) (n : ℕ) (k : KeepsRolled s after way.frame states n) where
     -- where each of a roll's states has the value that the timeline leads to, so has each state that is then saved
@@ -161,9 +155,6 @@ module _ {N : Type 0} (s : Standing N) (way : Way) (g : IsGoing s way) where
     rolled_values value step opening h given =
         let T : Rows = timeline s.inputs.players s.inputs.settled in
         k value (λ q. run step opening (T ++ q)) h (λ j d few. given j d few ∙ ap (run step opening) (sym (whole s.inputs.players s.inputs.settled (way.frame + j + 1) (omega (arith, low)))))
-
-    pub nil_values : (x : Value) → HaveValues (λ u. []) still x (timeline s.inputs.players s.inputs.settled) s.tree.states → HaveValues (λ u. []) still x (timeline s.inputs.players s.inputs.settled) after.tree.states
-    nil_values x h = rolled_values (λ u. []) still x h (λ j d few. nil_later x h (way.frame + j + 1) (omega arith))
 
     -- stepped on from, and settled
     pub keeps_given : (cut new : Standing N) (entry : Entry) → after.inputs ≡ s.inputs → cut.inputs ≡ stepped_inputs after.inputs entry → cut.tree ≡ after.tree → new.inputs ≡ record cut.inputs { settled = cut.inputs.settled + settling cut } → new.tree.states ≡ settled_by cut (settling cut)

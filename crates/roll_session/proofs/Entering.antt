@@ -28,13 +28,13 @@ use Rattle.roll_session.specs.declared.room.Room.{Room}
 use Rattle.roll_session.specs.declared.event.Call.TheVariants.{Sync as SyncCall, Advance as AdvanceCall}
 use Rattle.roll_session.specs.Held.{HasRoom, IsSession, Shows, planned_of}
 use Rattle.roll_session.specs.Logs.{Filed}
-use Rattle.roll_session.specs.Saves.{HaveValues, Standing, rows_to, settled_by, settling, stepped_inputs, taken_inputs, deepest_toward}
+use Rattle.roll_session.specs.Saves.{Standing, rows_to, settled_by, settling, stepped_inputs, taken_inputs, deepest_toward}
 use Rattle.roll_session.specs.Seen.{Step, plain}
 use Rattle.roll_session.specs.Standing.{as_planned}
 use Rattle.roll_session.proofs.Between.{IsBetween, can_settle}
 use Rattle.roll_inputs.proofs.Refusals.{first_refusal-front}
 use Rattle.roll_session.proofs.Holding.{accepted, can_be_partial_advance, can_be_partial_sync, partial_accepted}
-use Rattle.roll_session.proofs.Rolled.{Added, between_after_advance, between_after_partial, between_after_sync, cost_is, depth_is, frame_is, near, paths_fit, roll_fits, roll_plan, session_event, shown_value, time_fits}
+use Rattle.roll_session.proofs.Rolled.{Added, between_after_advance, between_after_partial, between_after_sync, cost_is, depth_is, frame_is, near, paths_fit, roll_fits, roll_plan, session_event, time_fits}
 
 -- an event later there is room for one less
 pub room_next : {N : Type 0} {log more : Filed} {saves after : Standing N} {room left : Room} {n : ℕ} (cut : Standing N) → HasRoom log saves room → 1 ≤ room.promised
@@ -58,7 +58,7 @@ stepped_frame inputs Advance = omega arith
 stepped_frame inputs entry = omega arith
 
 -- what is so of a roll to the current frame and of one to the next is so of each call that rolls
-roll_cases : (P : Call → Type 0) (core : Core) (call : Call) (to : ℕ) → IsRollTo core call to → (to ≡ core.frame → P SyncCall) → (to ≡ core.frame + 1 → P AdvanceCall) → P call
+pub roll_cases : (P : Call → Type 0) (core : Core) (call : Call) (to : ℕ) → IsRollTo core call to → (to ≡ core.frame → P SyncCall) → (to ≡ core.frame + 1 → P AdvanceCall) → P call
 roll_cases P core SyncCall to e sync advance = sync e
 roll_cases P core AdvanceCall to e sync advance = advance e
 roll_cases P core call to e sync advance = absurd e
@@ -131,7 +131,7 @@ module _ {S N : Type 0} {state_value : S → Value} {snapshot_value : N → Valu
       roll_cases (λ (e : Call). rolled (cost core to) old ≡ counts_by core (entry_of e) old) core call to is_to (λ e. ap (λ (n : ℕ). rolled (cost core n) old) e) (λ e. ap (λ (n : ℕ). rolled (cost core n) old) e)
 
   -- a roll that the game may refuse
-  partial_by : (call : Call) (to made : ℕ) → IsRollTo core call to → refusal settings game core (event_of call) ≡ None → made ≤ cost core to → can_be_partial core to made ≡ true
+  pub partial_by : (call : Call) (to made : ℕ) → IsRollTo core call to → refusal settings game core (event_of call) ≡ None → made ≤ cost core to → can_be_partial core to made ≡ true
   partial_by call to made is_to fine few =
       roll_cases (λ (e : Call). refusal settings game core (event_of e) ≡ None → can_be_partial core to made ≡ true) core call to is_to
       (λ e fine. subst (λ (n : ℕ). can_be_partial core n made ≡ true) (sym e) (can_be_partial_sync core made (subst (λ (n : ℕ). made ≤ cost core n) e few)))
@@ -145,7 +145,7 @@ module _ {S N : Type 0} {state_value : S → Value} {snapshot_value : N → Valu
       all_given_where h = go (all_given core.players) h
 
   -- an event is accepted only where the log has room
-  not_full : (entry : Entry) → refusal settings game core (plain entry) ≡ None → nat_le settings.log core.logged ≡ false
+  pub not_full : (entry : Entry) → refusal settings game core (plain entry) ≡ None → nat_le settings.log core.logged ≡ false
   not_full entry fine = go (nat_le settings.log core.logged) (sym (first_refusal-behind tests ((nat_le settings.log core.logged, LogFull) ∷ []) (all_fail tests (first_refusal-front tests _ fine))) ∙ fine)
     where
       tests : List (Bool × Refusal)
@@ -189,11 +189,10 @@ module _ {S N : Type 0} {state_value : S → Value} {snapshot_value : N → Valu
       rolled_settles after cut a inputs tree = settles (entry_of call) not_repeat fine cut (rolled_by call to is_to after cut a inputs tree)
 
       pub rolled_next : (after cut settled : Standing N) (planned : Planned) (state : S) → HasAdded to (to - saves.inputs.settled - deepest_toward saves to) after → cut.inputs ≡ stepped_inputs after.inputs (entry_of call) → cut.tree ≡ after.tree → IsSettled cut settled
-          → ((x : Value) → HaveValues snapshot_value step x (timeline saves.inputs.players saves.inputs.settled) saves.tree.states → state_value state ≡ run step x (timeline saves.inputs.players to))
-          → saves.tree.base ≡ saves.inputs.settled → planned ≡ record planner { last = Some (planned_roll saves.tree (rows_to saves.inputs to)) } → IsSession state_value snapshot_value step opening settings (log ++ entry_of call ∷ []) settled planned (Some state)
+          → state_value state ≡ run step opening (timeline core.players to) → saves.tree.base ≡ saves.inputs.settled → planned ≡ record planner { last = Some (planned_roll saves.tree (rows_to saves.inputs to)) } → IsSession state_value snapshot_value step opening settings (log ++ entry_of call ∷ []) settled planned (Some state)
       rolled_next after cut settled planned state a inputs tree now value base plan =
           session_event s (event_of call) cut settled planned (Some state) (accepted settings game core (event_of call) not_repeat fine) (rolled_by call to is_to after cut a inputs tree) now.inputs now.states
-          (shows_by call to is_to state (shown_value s to state value))
+          (shows_by call to is_to state value)
           (planned_by call to is_to planned (plan ∙ roll_plan s to low high base))
 
       -- a roll that the game refused after so many states

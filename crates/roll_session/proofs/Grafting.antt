@@ -170,7 +170,7 @@ module _ {S N : Type 0} {state_value : S → Value} {snapshot_value : N → Valu
   pub grafted_count : length (new_paths core (branch_of branch.route)) ≡ count_new saves branch.route
   grafted_count = ap length can_graft.adds ∙ length_prefixes (whole_of core (branch_of branch.route)) (kept_to saves branch.route) (count_new saves branch.route)
 
-  is_taken : is_accepted settings game core (grafting branch) ≡ true
+  pub is_taken : is_accepted settings game core (grafting branch) ≡ true
   is_taken = accepted settings game core (grafting branch) refl fine
 
   -- its states are in the tree

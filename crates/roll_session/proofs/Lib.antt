@@ -38,3 +38,4 @@ pub mod Following
 pub mod Changes
 pub mod Copies
 pub mod Hearing
+pub mod WithGame

@@ -8,7 +8,7 @@ use Rattle.roll_frame.specs.Core.{cost, depth, kept, settled}
 use Rattle.roll_frame.specs.Events.{CoreEvent, applied, is_accepted, replay}
 use Rattle.roll_frame.specs.Games.{Value}
 use Rattle.roll_frame.specs.Inputs.{with_none_given}
-use Rattle.roll_frame.specs.Paths.{prefixes, run}
+use Rattle.roll_frame.specs.Paths.{prefixes}
 use Rattle.roll_frame.specs.Timeline.{timeline}
 use Rattle.roll_frame.specs.declared.entry.Entry.{Entry}
 use Rattle.roll_frame.specs.declared.entry.Entry.TheVariants.{Advance, Partial, Sync}
@@ -114,10 +114,6 @@ module _ {S N : Type 0} {state_value : S → Value} {snapshot_value : N → Valu
   session_event event between after planned shown a b inputs states shows plan =
       session_next state_value snapshot_value step opening settings log event after planned shown s.is_log a
       (settled_kept snapshot_value step opening settings (record { opening = opening; step = step }) log s.is_log event a between after b inputs states) shows plan
-
-  -- the value that is shown after a roll
-  pub shown_value : (m : ℕ) (state : S) → ((x : Value) → HaveValues snapshot_value step x (timeline saves.inputs.players saves.inputs.settled) saves.tree.states → state_value state ≡ run step x (timeline saves.inputs.players m)) → state_value state ≡ run step opening (timeline (replay settings log).players m)
-  shown_value m state h = rw s.kept.inputs at (h opening values_there)
 
   -- the frame is near the settled one
   pub near : saves.inputs.frame ≤ saves.inputs.settled + saves.inputs.threshold

@@ -13,11 +13,14 @@ use Rattle.roll_frame.specs.declared.refusal.Refusal.TheVariants.{Stranger}
 use Rattle.roll_frame.specs.declared.route.Route.{Route}
 use Rattle.roll_frame.specs.declared.settings.Settings.{Settings}
 use Rattle.roll_game.specs.Counts.{no_calls}
+use Rattle.roll_game.specs.declared.counts.Counts.{Counts}
+use Rattle.roll_laws.specs.Sessions.{IsLog}
 use Rattle.roll_plan.specs.Plans.{Planned}
 use Rattle.roll_session.specs.Calls.{IsAllowed, IsRollTo}
 use Rattle.roll_session.specs.Changes.{graft_refusal}
 use Rattle.roll_session.specs.Grafting.{ahead_of, kept_to, place_tests, possible_to, start_of}
-use Rattle.roll_session.specs.Held.{IsSession}
+use Rattle.roll_session.specs.Held.{IsSession, Shows}
+use Rattle.roll_session.specs.Others.{hears_more, hears_nothing, Hears}
 use Rattle.roll_session.specs.Saves.{HaveValues, Standing}
 use Rattle.roll_session.specs.Seen.{Seen, Step}
 use Rattle.roll_session.specs.Standing.{rows_from}
@@ -41,6 +44,10 @@ seen_bare settings log reserved =
       reserved = reserved;
     }
 
+-- and so with the game's value of the opening, and what was asked of the game
+abbrev pub with_game : Value → Counts → Seen → Seen
+with_game opening counts s = record s { opening = opening; counts = counts }
+
 -- and its timeline and saved states, apart from the room for settled rows
 pub record Bare (S : Type 0) : Type 0 where
   pub seen : Seen
@@ -59,12 +66,31 @@ module _ {S : Type 0} where
   IsBare settings log saves planner =
       IsSession {S = ℕ} (λ state. []) (λ snapshot. []) still [] settings log saves planner (option_map (λ rows. 0) (replay settings log).shown)
 
-  -- for every game: where each kept state has the value that its rows lead to, each still has
-  abbrev pub KeepsAll : Standing S → Standing S → Type 0
-  KeepsAll old new =
-      (value : S → Value) (step : Step) (opening : Value)
+  -- in a game: where each kept state has the value that its rows lead to, each still has
+  abbrev pub KeepsWorths : (S → Value) → Step → Standing S → Standing S → Type 0
+  KeepsWorths value step old new =
+      (opening : Value)
       → HaveValues value step opening (timeline old.inputs.players old.inputs.settled) old.tree.states
       → HaveValues value step opening (timeline new.inputs.players new.inputs.settled) new.tree.states
+
+  -- and so in every game
+  abbrev pub KeepsAll : Standing S → Standing S → Type 0
+  KeepsAll old new =
+      (value : S → Value) (step : Step) → KeepsWorths value step old new
+
+  -- nothing happened to a session but that it heard others, and what is kept still has its values
+  pub record Keeps (old new : Bare S) : Type 0 where
+    pub hears : Hears still old.seen new.seen
+    pub values : KeepsAll old.saves new.saves
+
+  pub keeps_itself : (it : Bare S) → Keeps it it
+  keeps_itself it = record { hears = hears_nothing still it.seen; values = λ value step opening have. have }
+
+  pub keeps_on : (a b c : Bare S) → Keeps a b → Keeps b c → Keeps a c
+  keeps_on a b c one two = record {
+    hears = hears_more still a.seen b.seen c.seen one.hears two.hears;
+    values = λ value step opening have. two.values value step opening (one.values value step opening have);
+  }
 
   -- and so it is where each of these states, from a frame on, has the value that the timeline leads to
   abbrev pub KeepsGiven : Standing S → Standing S → ℕ → List S → Type 0
@@ -116,3 +142,10 @@ module _ {S : Type 0} where
     pub going : IsGoing s.saves way
     pub to : IsRollTo s.seen.core call way.to
     pub allowed : IsAllowed still s.seen call
+
+-- the session has its game: its log is one that events leave there, each saved state has the value that its rows lead to from the
+-- opening, and so has the one that is shown
+pub record HasGame {S N : Type 0} (state_value : S → Value) (snapshot_value : N → Value) (step : Step) (opening : Value) (s : Bare N) (current : Option S) : Type 0 where
+  pub is_log : IsLog s.seen.settings (record { opening = opening; step = step }) s.seen.log
+  pub values : HaveValues snapshot_value step opening (timeline s.saves.inputs.players s.saves.inputs.settled) s.saves.tree.states
+  pub shows : Shows state_value step opening s.seen.core.shown current

@@ -1,21 +1,25 @@
 //! A session without a game.
-ghost use Rattle.std.specs.Prelude.{◌≡◌, ◌≤◌, ◌<◌, ◌-◌, ◌∷◌, [], false, is_none, length, max, IfOk, IfErr, IfSome, IsSomeAnd, None, OnOk, OnErr, option_map, Some, if◌then◌else◌};
+ghost use Rattle.std.specs.Prelude.{◌≡◌, ◌≤◌, ◌<◌, ◌-◌, ◌∷◌, [], false, is_none, length, max, nat_lt, IfOk, IfErr, IfSome, IsSomeAnd, None, OnOk, OnErr, option_map, Some, if◌then◌else◌};
 ghost use Rattle.roll_frame.specs.Claims.{claim_of, IsRight};
-ghost use Rattle.roll_frame.specs.Core.{depth, kept};
+ghost use Rattle.roll_frame.specs.Core.{cost, depth, kept, settled as settled_frame};
 ghost use Rattle.roll_frame.specs.Events.{branch_of, is_repeat, tests_of};
 ghost use Rattle.roll_frame.specs.Grafts.{new_paths};
+ghost use Rattle.roll_frame.specs.Inputs.{of_player, player_at};
 ghost use Rattle.roll_frame.specs.Refusals.{first_refusal};
 ghost use Rattle.roll_frame.specs.Settings.{start_refusal};
 ghost use Rattle.roll_frame.specs.Timeline.{row_at};
-ghost use Rattle.roll_game.specs.Counts.{no_calls};
-ghost use Rattle.roll_session.specs.Answered.{replied, with_entries, IsAnswered};
+ghost use Rattle.roll_game.specs.Counts.{no_calls, IsRefusedAt};
+ghost use Rattle.roll_inputs.specs.Boards.{confirmed_word, source_at};
+ghost use Rattle.roll_session.specs.Answered.{counts_by, replied, with_entries, IsAnswered};
 ghost use Rattle.roll_session.specs.Calls.{entry_of, event_of, input_reply, judged, IsAdmitted, IsAllowed, IsInput, IsRoll, IsRollTo};
-ghost use Rattle.roll_session.specs.Changes.{after_graft, graft_refusal, reserve_refusal, FitsLog, IsRefused, IsWhy};
-ghost use Rattle.roll_session.specs.Gameless.{bare_branch, route_refusal_of, still, CanEnter, IsLooked, KeepsAll, KeepsBranch, KeepsGiven, KeepsGrafted};
+ghost use Rattle.roll_session.specs.Changes.{after_graft, after_partial, graft_refusal, reserve_refusal, FitsLog, IsRefused, IsWhy};
+ghost use Rattle.roll_session.specs.Gameless.{bare_branch, route_refusal_of, still, unroomed, with_game, CanEnter, IsLooked, KeepsAll, KeepsBranch, KeepsGiven, KeepsGrafted, KeepsWorths};
 ghost use Rattle.roll_session.specs.Foretold.{guess_words_refusal_of, rerun_of, words_job_of, words_refusal_of};
 ghost use Rattle.roll_session.specs.Guessing.{guess_job_of, guess_refusal_of};
 ghost use Rattle.roll_session.specs.Headline.{last_claim};
 ghost use Rattle.roll_session.specs.Held.{inputs_of};
+ghost use Rattle.roll_session.specs.Planned.{IsPlanOfRoll};
+ghost use Rattle.roll_session.specs.Saves.{IsRunTo};
 ghost use Rattle.roll_session.specs.Seen.{game_of, FollowsLog};
 ghost use Rattle.roll_session.specs.Standing.{from_start, settled_rows};
 ghost use Rattle.roll_session.specs.Started.{first_seen};
@@ -26,13 +30,15 @@ use crate::event::{Call, Grafted};
 use crate::guess::{count_rerun, foretold_rows, guessed_rows, start_along};
 use crate::log::Log;
 use crate::place::{add_new_states, route_refusal};
+use crate::roll::{Rolled, roll};
 use crate::room::Room;
 use crate::saves::Saves;
 use crate::way::{Way, add_rolled};
 use roll_branch::PackedRoute;
 use roll_frame::{Claim, Refusal, Reply, Route, Row, Settings};
-use roll_inputs::{Board, Heard, RemoteWord};
-use roll_plan::Planner;
+use roll_game::Game;
+use roll_inputs::{Board, Heard, RemoteWord, Source};
+use roll_plan::{Plan, Planner};
 use roll_tree::Tree;
 use std::alloc::Global;
 use std::marker::Model;
@@ -341,6 +347,8 @@ impl<S> Core<S> {
         ensures kept { from_start (settled_rows self.now.seen.core)
             (paths_of self.now.saves.tree) ≡ kept self.now.seen.core }
         ensures within { self.now.saves.inputs.settled ≤ self.now.seen.core.frame }
+        ensures base { self.now.saves.tree.base ≡ self.now.saves.inputs.settled }
+        ensures bare { self.now.seen ≡ with_game [] no_calls self.now.seen }
     {
         self.saves.laws();
     }
@@ -351,6 +359,81 @@ impl<S> Core<S> {
         ensures { result ≡ row_at self.now.saves.inputs.players frame }
     {
         self.saves.board().row(frame)
+    }
+
+    /// The current frame.
+    pub fn frame(&self) -> u32
+        ensures { result ≡ self.now.seen.core.frame }
+    {
+        self.saves.board().frame()
+    }
+
+    /// How many players there are. They are numbered from 1.
+    pub fn players(&self) -> u8
+        ensures { result ≡ length self.now.seen.core.players }
+    {
+        self.settings.players
+    }
+
+    /// Whether there is such a player, and it is local.
+    pub fn is_local(&self, player: u8) -> bool
+        ensures { result ≡ of_player (λ p. p.local) self.now.seen.core.players player }
+    {
+        self.saves.board().is_local(player)
+    }
+
+    /// How many words of a player are confirmed. None if there is no such player.
+    pub fn confirmed(&self, player: u8) -> Option<u32>
+        ensures { result
+            ≡ option_map (λ p. length p.words) (player_at self.now.seen.core.players player) }
+    {
+        self.saves.board().confirmed(player)
+    }
+
+    /// The confirmed word of a player at a frame, settled or not. None if it isn't confirmed, and if there is no such player.
+    pub fn confirmed_word(&self, player: u8, frame: u32) -> Option<u32>
+        ensures { result ≡ confirmed_word self.now.seen.core.players player frame }
+    {
+        self.saves.confirmed_word(player, frame)
+    }
+
+    /// Where a player's cell of a frame, past or to come, is from. None where there is no such player.
+    pub fn source(&self, player: u8, frame: u32) -> Option<Source>
+        ensures { result
+            ≡ option_map (source_at frame) (player_at self.now.seen.core.players player) }
+    {
+        self.saves.board().source(player, frame)
+    }
+
+    /// How many rows are settled.
+    pub fn settled(&self) -> u32
+        ensures { result ≡ settled_frame self.now.seen.core }
+    {
+        self.saves.board().settled()
+    }
+
+    /// A settled row: it never changes. None from the settled frame on.
+    pub fn settled_row(&self, frame: u32) -> Option<Row>
+        ensures { result ≡ (if nat_lt frame (settled_frame self.now.seen.core)
+            then Some (row_at self.now.seen.core.players frame) else None) }
+    {
+        self.saves.settled_row(frame)
+    }
+
+    /// The plan of the last roll, as that of a session.
+    pub(crate) fn last_plan(&self) -> Option<&Plan>
+        ensures when { is_none result ≡ is_none self.now.seen.core.last }
+        ensures plan { IfSome self.now.seen.core.last (λ roll. IfSome result
+            (λ plan. IsPlanOfRoll self.now.seen.settings.players roll plan.now)) }
+    {
+        self.planner.last()
+    }
+
+    /// The timeline and the saved states.
+    pub(crate) fn saves(&self) -> &Saves<S>
+        ensures { unroomed result.now ≡ self.now.saves }
+    {
+        &self.saves
     }
 
     /// The accepted events.
@@ -375,7 +458,8 @@ impl<S> Core<S> {
     }
 
     /// Judges a call, and makes sure that there is room for its entry.
-    fn admit(&mut self, call: Call) -> Result<Heard, Refusal>
+    #[inline(always)]
+    pub(crate) fn admit(&mut self, call: Call) -> Result<Heard, Refusal>
         ensures heard { IfOk result
             (λ heard. IsAdmitted still self.old.seen self.new.seen call heard) }
         ensures saves { self.new.saves ≡ self.old.saves }
@@ -394,6 +478,7 @@ impl<S> Core<S> {
     }
 
     /// What the rules say of a call, apart from a full log.
+    #[inline(always)]
     fn judge(&self, call: Call) -> Result<Heard, Refusal>
         ensures { result ≡ judged (is_repeat self.now.seen.core (entry_of call))
             (first_refusal (tests_of self.now.seen.settings (game_of still self.now.seen)
@@ -403,7 +488,7 @@ impl<S> Core<S> {
     }
 
     /// Takes in a branch that the rules accept, and that ran along this route.
-    fn enter_branch(
+    pub(crate) fn enter_branch(
         &mut self,
         ticket: u64,
         route: PackedRoute,
@@ -476,6 +561,50 @@ impl<S> Core<S> {
         match call {
             Call::Advance => frame + 1,
             _ => frame,
+        }
+    }
+}
+
+/// Rolls to the frame of a call that the rules accept, by the game at hand. Where the game refuses, it says how many states were saved,
+/// and there is no plan.
+pub(crate) fn roll_by<G: Game>(
+    game: &mut G,
+    core: &mut Core<G::Snapshot>,
+    call: Call,
+    to: u32,
+) -> Result<Rolled<G::State>, u32>
+    requires to { IsRollTo core.old.seen.core call to }
+    requires allowed { IsAllowed still core.old.seen call }
+    requires room { 1 ≤ core.old.seen.reserved }
+    ensures entered { OnOk result (core.new.seen
+        ≡ with_entries core.old.seen (entry_of call ∷ []) core.old.seen.counts) }
+    ensures from { IfOk result (λ rolled. rolled.from ≡ depth core.old.seen.core to) }
+    ensures within { IfOk result (λ rolled. rolled.from ≤ to) }
+    ensures state { IfOk result (λ rolled. IsRunTo G.snapshot_value G.step core.old.saves to
+        (G.state_value rolled.state)) }
+    ensures counts { OnOk result (G.call_counts game.new
+        ≡ counts_by core.old.seen.core (entry_of call) (G.call_counts game.old)) }
+    ensures values { KeepsWorths G.snapshot_value G.step core.old.saves core.new.saves }
+    ensures made { IfErr result (λ made. made ≤ cost core.old.seen.core to) }
+    ensures cut { IfErr result (λ made. core.new.seen
+        ≡ after_partial core.old.seen to made core.old.seen.counts) }
+    ensures refused { IfErr result
+        (λ made. IsRefusedAt made (G.call_counts game.old) (G.call_counts game.new)) }
+{
+    core.saves.laws();
+    match roll(game, &mut core.saves, &mut core.planner, to) {
+        Ok(rolled) => {
+            core.saves.finish_roll(call);
+            core.saves.settle();
+            core.log.add_call(call);
+            core.room.spend();
+            Ok(rolled)
+        }
+        Err(made) => {
+            core.saves.settle();
+            core.log.add_partial(to, made);
+            core.room.spend();
+            Err(made)
         }
     }
 }

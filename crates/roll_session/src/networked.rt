@@ -26,8 +26,8 @@ pub trait Networked {
     /// What its game makes of a state and a row.
     ghost step: { Step };
 
-    /// What words of others, and their leaving, make of it: of a session with a game that nothing else happened to it, of one
-    /// without, what they leave as it was.
+    /// What words of others, and their leaving, make of it: nothing else happened to it, and one without a game leaves the states that
+    /// are kept as they were.
     ghost keeps: { Self → Self → Type 0 };
 
     /// Nothing at all keeps it.
@@ -192,44 +192,44 @@ impl<G: Game> Settling for Session<G> {
 }
 
 impl<S: Drop> Networked for Core<S> {
-    ghost use Rattle.roll_session.specs.Gameless.{still, KeepsAll};
+    ghost use Rattle.roll_session.specs.Gameless.{keeps_itself, keeps_on, still, Keeps};
 
     ghost seen = { λ core. core.seen };
 
     ghost step = { still };
 
-    ghost keeps = { λ old new. KeepsAll old.saves new.saves };
+    ghost keeps = { Keeps };
 
-    ghost keeps_itself = { λ it value step opening have. have };
+    ghost keeps_itself = { keeps_itself };
 
-    ghost keeps_on = { λ a b c one two value step opening have. two value step opening (one value step opening have) };
+    ghost keeps_on = { keeps_on };
 
     fn settings(&self) -> &Settings {
         self.settings()
     }
 
     fn frame(&self) -> u32 {
-        self.saves.board().frame()
+        self.frame()
     }
 
     fn players(&self) -> u8 {
-        self.settings.players
+        self.players()
     }
 
     fn is_local(&self, player: u8) -> bool {
-        self.saves.board().is_local(player)
+        self.is_local(player)
     }
 
     fn confirmed(&self, player: u8) -> Option<u32> {
-        self.saves.board().confirmed(player)
+        self.confirmed(player)
     }
 
     fn confirmed_word(&self, player: u8, frame: u32) -> Option<u32> {
-        self.saves.confirmed_word(player, frame)
+        self.confirmed_word(player, frame)
     }
 
     fn source(&self, player: u8, frame: u32) -> Option<Source> {
-        self.saves.board().source(player, frame)
+        self.source(player, frame)
     }
 
     fn laws(&self) {
@@ -256,10 +256,10 @@ impl<S: Drop> Networked for Core<S> {
 
 impl<S: Drop> Settling for Core<S> {
     fn settled(&self) -> u32 {
-        self.saves.board().settled()
+        self.settled()
     }
 
     fn settled_row(&self, frame: u32) -> Option<Row> {
-        self.saves.settled_row(frame)
+        self.settled_row(frame)
     }
 }

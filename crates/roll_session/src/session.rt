@@ -3,40 +3,39 @@ ghost use Rattle.std.specs.Prelude.{◌≡◌, ℕ, ◌≤◌, ◌<◌, ◌+◌,
 ghost use Rattle.std.specs.Option.{option_map};
 ghost use Rattle.roll_frame.specs.Claims.{claim_of, path_from, IsRight};
 ghost use Rattle.roll_frame.specs.Core.{depth, kept as kept_of, settled as settled_frame};
-ghost use Rattle.roll_frame.specs.Events.{answer, branch_of, is_repeat, tests_of};
+ghost use Rattle.roll_frame.specs.Events.{answer, branch_of};
 ghost use Rattle.roll_frame.specs.Grafts.{new_paths};
-ghost use Rattle.roll_frame.specs.Refusals.{first_refusal};
 ghost use Rattle.roll_frame.specs.Inputs.{is_repeated, of_player, player_at};
 ghost use Rattle.roll_frame.specs.Order.{in_order};
 ghost use Rattle.roll_frame.specs.Paths.{run as run_of};
 ghost use Rattle.roll_frame.specs.Settings.{delay_at, start_refusal};
 ghost use Rattle.roll_frame.specs.Timeline.{row_at as row_of, timeline};
-ghost use Rattle.roll_game.specs.Counts.{counted};
+ghost use Rattle.roll_game.specs.Counts.{counted, no_calls};
 ghost use Rattle.roll_game.specs.declared.counts.Call.TheVariants.{Load as Loads, Copy as Copies};
 ghost use Rattle.roll_inputs.specs.Boards.{confirmed_word, source_at};
 ghost use Rattle.roll_session.specs.Foretold.{guess_words_refusal_of, rerun_of, words_job_of, words_refusal_of};
+ghost use Rattle.roll_session.specs.Gameless.{with_game};
 ghost use Rattle.roll_session.specs.Guessing.{guess_job_of, guess_refusal_of, IsCopied};
 ghost use Rattle.roll_session.specs.Held.{Shows};
 ghost use Rattle.roll_session.specs.Planned.{IsPlanOfRoll};
 ghost use Rattle.roll_session.specs.Answered.{counts_by, replied, with_entries, IsAnswered};
-ghost use Rattle.roll_session.specs.Calls.{entry_of, event_of, input_reply, judged, IsAdmitted, IsAllowed, IsInput, IsRollTo};
+ghost use Rattle.roll_session.specs.Calls.{entry_of, event_of, input_reply, IsAdmitted, IsAllowed, IsInput, IsRollTo};
 ghost use Rattle.roll_session.specs.Changes.{advance_refusal, after_advance, after_disconnect, after_graft, after_local, after_sync, disconnect_refusal, graft_refusal, local_refusal, reached_by, remote_refusal, reserve_refusal, sync_refusal, FitsLog, IsHeard, IsPartial, IsRefused, IsRollRefused, IsWhy};
-ghost use Rattle.roll_session.specs.Seen.{game_of, FollowsLog, IsLeast};
+ghost use Rattle.roll_session.specs.Seen.{FollowsLog, IsLeast};
 ghost use Rattle.roll_session.specs.Started.{first_seen, IsGivenBack};
 ghost use Rattle.roll_session.specs.Headline.{last_claim, value_shown};
 
 use crate::event::{Call, Grafted, Reached};
-use crate::guess::{count_rerun, foretold_rows, guessed_rows, job_along};
+use crate::gameless::{Core, roll_by};
+use crate::guess::{foretold_rows, guessed_rows, job_along};
 use crate::log::Log;
-use crate::place::{add_new_states, branch_refusal};
-use crate::roll::{Rolled, roll};
-use crate::room::Room;
-use crate::saves::Saves;
+use crate::place::branch_refusal;
+use crate::roll::Rolled;
 use roll_branch::{Branch, Job, Parts as BranchParts};
 use roll_frame::{Claim, Event, Path, Refusal, Reply, Route, Row, Settings};
 use roll_game::{Game, StartFault};
-use roll_inputs::{Board, Heard, RemoteWord, Source};
-use roll_plan::{Plan, Planner};
+use roll_inputs::{Heard, RemoteWord, Source};
+use roll_plan::Plan;
 use std::alloc::Global;
 use std::marker::Model;
 use std::mem;
@@ -49,25 +48,20 @@ use std::mem;
 #[derive(Drop)]
 pub struct Session<G: Game> {
     game: G,
-    settings: Settings,
     opening: G::Snapshot,
-    saves: Saves<G::Snapshot>,
-    planner: Planner,
+    core: Core<G::Snapshot>,
     current: Option<G::State>,
-    log: Log,
-    room: Room,
 }
 
 impl<G: Game> Model for Session<G> {
-    ghost use Rattle.roll_frame.specs.Events.{replay};
+    ghost use Rattle.roll_session.specs.Gameless.{with_game, HasGame};
     ghost use Rattle.roll_session.specs.Seen.{Seen};
-    ghost use Rattle.roll_session.specs.Held.{HasRoom, IsSession};
 
     ghost Value = { Seen };
 
-    ghost view = { λ s. record { settings = s.settings; opening = G.snapshot_value s.opening; core = replay s.settings s.log.entries; log = s.log.entries; counts = G.call_counts s.game; reserved = s.room.promised } };
+    ghost view = { λ s. with_game (G.snapshot_value s.opening) (G.call_counts s.game) s.core.seen };
 
-    ghost invariant = { λ s. IsSession G.state_value G.snapshot_value G.step (G.snapshot_value s.opening) s.settings s.log.entries s.saves s.planner s.current × HasRoom s.log s.saves s.room };
+    ghost invariant = { λ s. HasGame G.state_value G.snapshot_value G.step (G.snapshot_value s.opening) s.core s.current };
 }
 
 impl<G: Game> Session<G> {
@@ -92,36 +86,26 @@ impl<G: Game> Session<G> {
         ensures game_back { IfErr result (λ fault. IsGivenBack (start_refusal settings)
             (G.call_counts game) (G.call_counts fault.game)) }
     {
-        let board = match Board::new(alloc, &settings) {
-            Ok(board) => board,
-            Err(why) => return Err(StartFault { why, game, opening }),
-        };
         let mut game = game;
-        let why = Refusal::NoMemory;
-        let Ok(planner) = Planner::new(alloc, settings.players) else {
+        if let Some(why) = settings.refusal() {
             return Err(StartFault { why, game, opening });
-        };
+        }
+        let why = Refusal::NoMemory;
         let Ok(first) = game.copy(&opening) else {
             return Err(StartFault { why, game, opening });
         };
-        let Ok(saves) = Saves::new(alloc, board, first) else {
+        let Ok(core) = Core::new(alloc, first, settings) else {
             return Err(StartFault { why, game, opening });
         };
         let Ok(state) = game.load(&opening) else {
             return Err(StartFault { why, game, opening });
         };
+        core.laws();
         Ok(Session {
             game,
-            settings,
             opening,
-            saves,
-            planner,
+            core,
             current: Some(state),
-            log: Log::new(alloc),
-            room: Room {
-                promised: 0,
-                there: 0,
-            },
         })
     }
 
@@ -141,10 +125,9 @@ impl<G: Game> Session<G> {
         ensures refused { IfErr result
             (IsRollRefused (sync_refusal self.old) self.old self.new self.old.core.frame) }
     {
-        self.saves.laws();
-        let board = self.saves.board();
-        let frame = board.frame();
-        let row = board.row(frame);
+        self.core.laws();
+        let frame = self.core.frame();
+        let row = self.core.row(frame);
         self.roll_to(Call::Sync, frame)?;
         Ok(row)
     }
@@ -164,8 +147,8 @@ impl<G: Game> Session<G> {
         ensures refused { IfErr result
             (IsRollRefused (advance_refusal self.old) self.old self.new (self.old.core.frame + 1)) }
     {
-        self.saves.laws();
-        let next = self.saves.board().frame() + 1;
+        self.core.laws();
+        let next = self.core.frame() + 1;
         let from = self.roll_to(Call::Advance, next)?;
         Ok(Reached {
             frame: next,
@@ -239,11 +222,13 @@ impl<G: Game> Session<G> {
         requires { route.now ≡ branch.now.route }
         ensures { result ≡ graft_refusal G.step self.now branch.now }
     {
-        let most = usize::from(self.settings.profile.branch_limit());
-        let refusal = branch_refusal(&self.game, &self.saves, branch, route, most);
+        self.core.laws();
+        let settings = self.core.settings();
+        let most = usize::from(settings.profile.branch_limit());
+        let refusal = branch_refusal(&self.game, self.core.saves(), branch, route, most);
         if refusal.is_some() {
             refusal
-        } else if self.log.len() >= self.settings.log as usize {
+        } else if self.core.log().len() >= settings.log as usize {
             Some(Refusal::LogFull)
         } else {
             None
@@ -297,12 +282,14 @@ impl<G: Game> Session<G> {
         ensures asked { IsCopied self.old.counts self.new.counts result }
         ensures same { self.new ≡ record self.old { counts = self.new.counts } }
     {
-        let board = self.saves.board();
+        self.core.laws();
+        let saves = self.core.saves();
+        let board = saves.board();
         if let Some(why) = board.guess_refusal(player, words, until) {
             return Err(why);
         }
         let rows = guessed_rows(board, player, words, until);
-        job_along(&mut self.game, &self.saves, alloc, rows.as_slice())
+        job_along(&mut self.game, saves, alloc, rows.as_slice())
     }
 
     /// A guess with words that have come, but that it isn't told yet, in their order: each has to be the next of its player,
@@ -328,12 +315,14 @@ impl<G: Game> Session<G> {
         ensures asked { IsCopied self.old.counts self.new.counts result }
         ensures same { self.new ≡ record self.old { counts = self.new.counts } }
     {
-        let board = self.saves.board();
+        self.core.laws();
+        let saves = self.core.saves();
+        let board = saves.board();
         if let Some(why) = board.foretold_refusal(words, until) {
             return Err(why);
         }
         let rows = foretold_rows(board, words, until);
-        job_along(&mut self.game, &self.saves, alloc, rows.as_slice())
+        job_along(&mut self.game, saves, alloc, rows.as_slice())
     }
 
     /// How many frames a roll to the current frame would run, if it were told these words, which are as those of
@@ -348,10 +337,7 @@ impl<G: Game> Session<G> {
         ensures refused { IfErr result
             (λ why. words_refusal_of self.now words.now ≡ Some why) }
     {
-        if let Some(why) = self.saves.board().words_refusal(words) {
-            return Err(why);
-        }
-        Ok(count_rerun(&self.saves, words))
+        self.core.rerun(words)
     }
 
     /// Takes a player's input, or sees that it was taken before.
@@ -361,13 +347,8 @@ impl<G: Game> Session<G> {
         ensures { IsAnswered G.step self.old self.new (event_of call)
             (replied (λ heard. input_reply call heard) result) }
     {
-        match self.admit(call)? {
-            Heard::Taken => {
-                self.apply_input(call);
-                Ok(Heard::Taken)
-            }
-            Heard::Repeated => Ok(Heard::Repeated),
-        }
+        self.core.laws();
+        self.core.take(call)
     }
 
     /// Rolls to the call's frame, and says where the roll started.
@@ -391,38 +372,7 @@ impl<G: Game> Session<G> {
         ensures refused { IfErr result
             (λ why. IsAnswered G.step self.old self.new (event_of call) (Reply.Refused why)) }
     {
-        match self.judge(call) {
-            Ok(Heard::Taken) => {
-                self.reserve_log(1)?;
-                Ok(Heard::Taken)
-            }
-            Ok(Heard::Repeated) => Ok(Heard::Repeated),
-            Err(why) => Err(why),
-        }
-    }
-
-    /// What the rules say of a call, apart from a full log.
-    #[inline(always)]
-    fn judge(&self, call: Call) -> Result<Heard, Refusal>
-        ensures { result ≡ judged (is_repeat self.now.core (entry_of call))
-            (first_refusal (tests_of self.now.settings (game_of G.step self.now) self.now.core []
-            (entry_of call))) }
-    {
-        self.saves.judge(call)
-    }
-
-    /// Takes a player's input that the rules accept.
-    fn apply_input(&mut self, call: Call)
-        requires input { IsInput call }
-        requires allowed { IsAllowed G.step self.old call }
-        requires room { 1 ≤ self.old.reserved }
-        ensures { self.new ≡ with_entries self.old (entry_of call ∷ []) self.old.counts }
-    {
-        self.saves.laws();
-        self.saves.take(call);
-        self.saves.settle();
-        self.log.add_call(call);
-        self.room.spend();
+        self.core.admit(call)
     }
 
     /// Takes in a branch that the rules accept, and that ran along this route.
@@ -433,17 +383,13 @@ impl<G: Game> Session<G> {
         ensures entered { self.new ≡ after_graft self.old branch }
         ensures added { result.added ≡ length (new_paths self.old.core (branch_of branch.route)) }
     {
-        self.saves.laws();
+        self.core.laws();
         let BranchParts {
             ticket,
             route,
             states,
         } = branch.into_parts();
-        let added = add_new_states(&mut self.saves, along, states);
-        self.saves.settle();
-        self.log.add_graft(ticket, route);
-        self.room.spend();
-        Grafted { added }
+        self.core.enter_branch(ticket, route, along, states)
     }
 
     /// Rolls to the frame of a call that the rules accept, and says where the roll started.
@@ -459,21 +405,14 @@ impl<G: Game> Session<G> {
         ensures cut { OnErr result (IsPartial self.old self.new to) }
         ensures why { IfErr result (λ why. why ≡ Refusal.NoMemory) }
     {
-        self.saves.laws();
-        match roll(&mut self.game, &mut self.saves, &mut self.planner, to) {
+        self.core.laws();
+        match roll_by(&mut self.game, &mut self.core, call, to) {
             Ok(Rolled { state, from }) => {
-                self.saves.finish_roll(call);
-                self.saves.settle();
                 self.current = Some(state);
-                self.log.add_call(call);
-                self.room.spend();
                 Ok(from)
             }
-            Err(made) => {
-                self.saves.settle();
+            Err(_) => {
                 self.current = None;
-                self.log.add_partial(to, made);
-                self.room.spend();
                 Err(Refusal::NoMemory)
             }
         }
@@ -494,11 +433,7 @@ impl<G: Game> Session<G> {
         ensures short { OnErr result (FitsLog self.old events → self.old.reserved < events) }
         ensures unchanged { OnErr result (self.new ≡ self.old) }
     {
-        if events as usize > self.settings.log as usize - self.log.len() {
-            return Err(Refusal::LogFull);
-        }
-        self.room.promise(&mut self.log, &mut self.saves, events)?;
-        Ok(())
+        self.core.reserve_log(events)
     }
 
     /// The log is one that events of a session that starts leave: so each law of `roll_laws` holds of the session's core.
@@ -506,42 +441,42 @@ impl<G: Game> Session<G> {
         ensures log { FollowsLog G.step self.now }
         ensures least { (m : ℕ) → IsLeast self.now.core m }
     {
-        self.saves.laws();
+        self.core.laws();
     }
 
     /// The accepted events.
     pub fn log(&self) -> &Log
         ensures { result.now.entries ≡ self.now.log }
     {
-        &self.log
+        self.core.log()
     }
 
     /// The current frame.
     pub fn frame(&self) -> u32
         ensures { result ≡ self.now.core.frame }
     {
-        self.saves.board().frame()
+        self.core.frame()
     }
 
     /// The settings that it was started with.
     pub fn settings(&self) -> &Settings
         ensures { result.now ≡ self.now.settings }
     {
-        &self.settings
+        self.core.settings()
     }
 
     /// How many players there are. They are numbered from 1.
     pub fn players(&self) -> u8
         ensures { result ≡ length self.now.core.players }
     {
-        self.settings.players
+        self.core.players()
     }
 
     /// Whether there is such a player, and it is local.
     pub fn is_local(&self, player: u8) -> bool
         ensures { result ≡ of_player (λ p. p.local) self.now.core.players player }
     {
-        self.saves.board().is_local(player)
+        self.core.is_local(player)
     }
 
     /// The frame in which a local player's next word counts: as many frames from now as its delay, and one more once it
@@ -554,9 +489,9 @@ impl<G: Game> Session<G> {
             ≡ self.now.core.frame + delay_at self.now.settings (player - 1)
             + (if of_player (λ p. p.given) self.now.core.players player then 1 else 0)) }
     {
-        let board = self.saves.board();
-        if board.is_local(player) {
-            board.confirmed(player)
+        self.core.laws();
+        if self.core.is_local(player) {
+            self.core.confirmed(player)
         } else {
             None
         }
@@ -567,7 +502,7 @@ impl<G: Game> Session<G> {
         ensures { result
             ≡ option_map (λ p. length p.words) (player_at self.now.core.players player) }
     {
-        self.saves.board().confirmed(player)
+        self.core.confirmed(player)
     }
 
     /// The confirmed word of a player at a frame, settled or not. None if it isn't confirmed, and if there is no such
@@ -575,14 +510,14 @@ impl<G: Game> Session<G> {
     pub fn confirmed_word(&self, player: u8, frame: u32) -> Option<u32>
         ensures { result ≡ confirmed_word self.now.core.players player frame }
     {
-        self.saves.confirmed_word(player, frame)
+        self.core.confirmed_word(player, frame)
     }
 
     /// Where a player's cell of a frame, past or to come, is from. None where there is no such player.
     pub fn source(&self, player: u8, frame: u32) -> Option<Source>
         ensures { result ≡ option_map (source_at frame) (player_at self.now.core.players player) }
     {
-        self.saves.board().source(player, frame)
+        self.core.source(player, frame)
     }
 
     /// The state that is shown: the opening at first, then where the last roll led. Inputs and grafts don't change it.
@@ -600,7 +535,7 @@ impl<G: Game> Session<G> {
     pub fn settled(&self) -> u32
         ensures { result ≡ settled_frame self.now.core }
     {
-        self.saves.board().settled()
+        self.core.settled()
     }
 
     /// A settled row: it never changes. None from the settled frame on.
@@ -608,7 +543,7 @@ impl<G: Game> Session<G> {
         ensures { result ≡ (if nat_lt frame (settled_frame self.now.core)
             then Some (row_of self.now.core.players frame) else None) }
     {
-        self.saves.settled_row(frame)
+        self.core.settled_row(frame)
     }
 
     /// The state after the settled rows.
@@ -616,7 +551,8 @@ impl<G: Game> Session<G> {
         ensures { G.snapshot_value result.now ≡ run_of G.step self.now.opening
             (timeline self.now.core.players (settled_frame self.now.core)) }
     {
-        let tree = self.saves.tree();
+        self.core.laws();
+        let tree = self.core.saved();
         tree.get(tree.root())
     }
 
@@ -626,7 +562,7 @@ impl<G: Game> Session<G> {
         ensures plan { IfSome self.now.core.last (λ roll. IfSome result
             (λ plan. IsPlanOfRoll self.now.settings.players roll plan.now)) }
     {
-        self.planner.last()
+        self.core.last_plan()
     }
 
     /// The claim of the last roll: what was kept before it, and why it started where it did. That it lists each path
@@ -644,7 +580,7 @@ impl<G: Game> Session<G> {
         ensures refused { IfErr result (λ why. why
             ≡ (if is_none self.now.core.last then Refusal.NoPlan else Refusal.NoMemory)) }
     {
-        self.planner.claim(alloc)
+        self.core.claim(alloc)
     }
 
     /// The paths of all kept states, in their order: those that can still matter.
@@ -657,8 +593,8 @@ impl<G: Game> Session<G> {
             ≡ map (path_from (settled_frame self.now.core)) (in_order (kept_of self.now.core))) }
         ensures refused { IfErr result (λ why. why ≡ Refusal.NoMemory) }
     {
-        self.saves.laws();
-        Ok(self.saves.tree().kept(alloc)?)
+        self.core.laws();
+        Ok(self.core.saved().kept(alloc)?)
     }
 
     /// Takes the session apart.
@@ -666,11 +602,14 @@ impl<G: Game> Session<G> {
         ensures opening { G.snapshot_value result.opening ≡ self.opening }
         ensures shown { Shows G.state_value G.step self.opening self.core.shown result.shown }
         ensures counts { G.call_counts result.game ≡ self.counts }
+        ensures core { result.core.seen ≡ with_game [] no_calls self }
     {
+        self.core.laws();
         Parts {
             game: self.game,
             opening: self.opening,
             shown: self.current,
+            core: self.core,
         }
     }
 
@@ -700,4 +639,6 @@ pub struct Parts<G: Game> {
     pub opening: G::Snapshot,
     /// The state that was shown, if there was one.
     pub shown: Option<G::State>,
+    /// All else: the session without its game.
+    pub core: Core<G::Snapshot>,
 }

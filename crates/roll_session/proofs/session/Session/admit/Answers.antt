@@ -1,6 +1,7 @@
-use Rattle.std.proofs.Common.{◌∙◌, inl, sym}
-use Rattle.roll_session.proofs.Answering.{refused_replied}
+use Rattle.roll_session.proofs.WithGame.{all_refused_there}
 use Rattle.roll_session.proofs.session.Session.admit.Goals as goal
 
-pub returns-in-Err-clause-refused : goal.returns-in-Err-clause-refused
-returns-in-Err-clause-refused g c = inl (refused_replied g.G.Game.step c.args.self.now c.args.call c.in-Err.why (sym c.in-Err.is ∙ c.judge.ensures))
+pub returns-clause-refused : goal.returns-clause-refused
+returns-clause-refused g c =
+    let e = c.admit.ensures in
+    rw (← c.self.view_is) (all_refused_there g.G.Game.step _ _ c.args.call c.self.inside.core c.admit.new.self c.admit.result e.refused e.unchanged)

@@ -1,6 +1,10 @@
-use Rattle.std.proofs.Common.{◌≡◌, Err, rules}
+use Rattle.std.proofs.Common.{◌≡◌, Err, arith, rules}
 use Rattle.roll_session.proofs.Changes.{advance_refused, advance_rolled}
+use Rattle.roll_session.proofs.Following.{small_of}
 use Rattle.roll_session.proofs.session.Session.advance_frame.Goals as goal
+
+pub overflow_add-next : goal.overflow_add-next
+overflow_add-next g c = omega (arith, c.frame-next.ensures, (small_of _ _ c.laws.ensures.log).frame)
 
 pub returns-in_err-from-clause-refused : goal.returns-in_err-from-clause-refused
 returns-in_err-from-clause-refused g c =

@@ -1,16 +1,22 @@
 use Rattle.std.proofs.Common.{◌≡◌, ◌∙◌, None, ap, subst, sym}
 use Rattle.std.specs.Prelude.{IfOk}
+use Rattle.roll_frame.specs.Core.{Core}
 use Rattle.roll_inputs.specs.Boards.{Inputs, guess_refusal}
-use Rattle.roll_session.specs.Guessing.{guess_job_of, guessed_rows}
+use Rattle.roll_session.specs.Guessing.{guess_job, guess_job_of, guessed_rows, job_along}
+use Rattle.roll_session.specs.Saves.{Standing}
 use Rattle.roll_session.specs.Seen.{Seen}
-use Rattle.roll_session.proofs.Guessing.{session_guessed, session_made}
+use Rattle.roll_session.proofs.Guessing.{session_guessed}
+use Rattle.roll_session.proofs.WithGame.{made_with_game, session_of}
 use Rattle.roll_session.proofs.session.Session.guess.Goals as goal
 
 pub returns-clause-job : goal.returns-clause-job
 returns-clause-job g c =
-    let i = c.self.inside in
-    let s = c.self.invariant.0 in
-    let fine : guess_refusal i.saves.inputs c.args.player c.args.words.now c.args.until ≡ None = ap (λ (b : Inputs). guess_refusal b c.args.player c.args.words.now c.args.until) (sym c.board-board.ensures) ∙ sym c.in_default.ensures in
-    let rows = c.as_slice.ensures.value ∙ c.guessed_rows-rows.ensures ∙ ap (λ (b : Inputs). guessed_rows b c.args.player c.args.words.now c.args.until) c.board-board.ensures in
-    subst (λ (s : Seen). IfOk c.job_along.result (λ job. job ≡ guess_job_of g.G.Game.step s c.args.player c.args.words.now c.args.until)) c.self.view_is
-    (session_made s c.as_slice.result.now _ c.job_along.result (session_guessed s c.args.player c.args.until c.args.words.now c.as_slice.result.now fine rows) c.job_along.ensures.job)
+    let core = c.self.inside.core in
+    let l = c.laws.ensures in
+    let s = session_of core c.self.invariant l.log l.inputs l.kept in
+    let board = c.board-board.ensures ∙ ap (λ (u : Standing _). u.inputs) c.saves-saves.ensures in
+    let fine : guess_refusal core.saves.inputs c.args.player c.args.words.now c.args.until ≡ None = rw board at (sym c.guess_refusal.ensures ∙ c.in_default.is) in
+    let rows = c.as_slice.ensures.value ∙ c.guessed_rows-rows.ensures ∙ ap (λ (b : Inputs). guessed_rows b c.args.player c.args.words.now c.args.until) board in
+    let is = subst (λ (k : Core). job_along g.G.Game.step (g.G.RawGame.snapshot_value c.self.inside.opening) core.saves c.as_slice.result.now ≡ guess_job (record { opening = g.G.RawGame.snapshot_value c.self.inside.opening; step = g.G.Game.step }) k c.args.player c.args.words.now c.args.until) (sym l.log.core) (session_guessed s c.args.player c.args.until c.args.words.now c.as_slice.result.now fine rows) in
+    subst (λ (t : Seen). IfOk c.job_along.result (λ job. job ≡ guess_job_of g.G.Game.step t c.args.player c.args.words.now c.args.until)) c.self.view_is
+    (made_with_game core c.self.invariant l.log l.inputs l.kept c.saves-saves.result.now c.saves-saves.ensures c.as_slice.result.now _ c.job_along.result is c.job_along.ensures.job)

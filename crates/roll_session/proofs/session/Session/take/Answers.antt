@@ -1,7 +1,12 @@
-use Rattle.std.proofs.Common.{inl}
-use Rattle.roll_session.proofs.Answering.{taken_replied}
+use Rattle.roll_session.proofs.WithGame.{answered_there, has_heard}
 use Rattle.roll_session.proofs.session.Session.take.Goals as goal
 
-pub returns-in-Taken : goal.returns-in-Taken
-returns-in-Taken g c =
-    inl (taken_replied g.G.Game.step c.args.self.now c.admit.new.self c.apply_input.new.self c.args.call c.requires.input (rw c.in-Taken.is at c.in_ok-admit.ensures.heard) c.apply_input.ensures)
+pub invariant_of-self : goal.invariant_of-self
+invariant_of-self g c =
+    let e = c.take.ensures in
+    has_heard c.self.inside.core c.self.invariant c.take.new.self c.args.call _ c.requires.input c.laws.ensures.log e.answered e.keeps e.shown
+
+pub returns : goal.returns
+returns g c =
+    let e = c.take.ensures in
+    rw (← c.self.view_is) (answered_there g.G.Game.step _ _ c.args.call c.requires.input c.self.inside.core.seen c.take.new.self.seen _ e.answered)

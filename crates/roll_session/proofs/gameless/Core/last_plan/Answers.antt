@@ -1,5 +1,5 @@
 use Rattle.roll_session.proofs.Holding.{session_plan}
-use Rattle.roll_session.proofs.session.Session.last_plan.Goals as goal
+use Rattle.roll_session.proofs.gameless.Core.last_plan.Goals as goal
 
 pub returns-clause-plan : goal.returns-clause-plan
 returns-clause-plan g c =
