@@ -16,6 +16,7 @@ pub mod Parcels
 pub mod Genuine
 pub mod Standing
 pub mod Later
+pub mod Openings
 pub mod Polling
 pub mod Mirrors
 pub mod Rising

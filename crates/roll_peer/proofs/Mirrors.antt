@@ -388,11 +388,11 @@ module _ (match : Match) (world : WordWorld) (i : ℕ) (from : IsFrom match worl
       silent match world i from there new
       (subst (λ (p : Peered). Stands match world i new.session p) (sym does.1)
       (stands_on match world i from there old.session new.session old.peer
-      (called_on step old.session new.session follows does.0) stands))
+      (called_on step old.session new.session follows does.0).words stands))
   acts step sent CallsHolding old new follows was does stands =
       silent match world i from there new
       (subst (λ (p : Peered). Stands match world i new.session p) (sym does.1)
-      (stands_on match world i from there old.session new.session old.peer does.0 stands))
+      (stands_on match world i from there old.session new.session old.peer does.0.words stands))
   acts step sent (Receives bytes now said) old new follows was does stands =
       silent match world i from there new
       (heard_stands step old new now bytes said does.0
@@ -404,7 +404,7 @@ module _ (match : Match) (world : WordWorld) (i : ℕ) (from : IsFrom match worl
   acts step sent (TakesTurn now said) old new follows was does stands =
       silent match world i from there new
       (stands_on match world i from there does.polled new.session new.peer
-      (goes_on does.poll new.peer.running does.polled new.session said does.plays)
+      (goes_on does.poll new.peer.running does.polled new.session said does.plays).words
       (polled_stands match world i from there old.session does.polled (ticking now old.peer) new.peer does.poll does.polls
       (ticked old.session now old.peer stands)))
   acts step sent (Sends machine now None) old new follows was does stands =

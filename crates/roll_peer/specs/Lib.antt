@@ -23,6 +23,7 @@ pub mod Rolling
 pub mod Requests
 pub mod Headline
 pub mod PeerWorlds
+pub mod Openings
 pub mod Known
 pub mod OneMatch
 pub mod MarkLaws

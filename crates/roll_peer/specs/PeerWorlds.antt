@@ -1,6 +1,6 @@
 -- All machines of a match, each with its session and the network beside it, and all datagrams that they ever sent: each may come
 -- at any time, at any machine, any number of times, or never.
-use Rattle.std.specs.Prelude.{◌≡◌, ◌≢◌, ◌⊎◌, ◌<◌, ℕ, ◌+◌, List, [], ◌∷◌, ◌++◌, Option, Some, None, Result, Ok, IfSome, slice_get}
+use Rattle.std.specs.Prelude.{◌≡◌, ◌≢◌, ◌⊎◌, ◌<◌, ℕ, ◌+◌, List, [], ◌∷◌, ◌++◌, length, Option, Some, None, Result, Ok, IfSome, slice_get}
 use Rattle.roll_contact.specs.Seals.{message_by}
 use Rattle.roll_frame.specs.Core.{settled}
 use Rattle.roll_frame.specs.Events.{CoreEvent}
@@ -76,9 +76,14 @@ IsCalled step old new =
     ⊎ ((event : CoreEvent) × IsShort step old new event)
     ⊎ (new ≡ record old { counts = new.counts })
 
--- each player's words begin with those before
-abbrev pub Continues : Seen → Seen → Type 0
-Continues old new = (p : ℕ) → (more : List ℕ) × (words_of new (p + 1) ≡ words_of old (p + 1) ++ more)
+-- a session goes on: to the network it is the one that it was, with more words
+pub record Continues (old new : Seen) : Type 0 where
+  -- each player's words begin with those before
+  pub words : (p : ℕ) → (more : List ℕ) × (words_of new (p + 1) ≡ words_of old (p + 1) ++ more)
+  -- there are as many players as before
+  pub players : length new.core.players ≡ length old.core.players
+  -- it has the opening that it had
+  pub opening : new.opening ≡ old.opening
 
 -- if bytes are heard as a play, a machine of the match sent them: whoever hasn't the key seals nothing
 abbrev pub IsGenuine : List (List ℕ) → Peered → List ℕ → Type 0

@@ -3,6 +3,7 @@ ghost use Rattle.std.specs.Prelude.{◌≡◌, ◌-◌, ◌^◌};
 ghost use Rattle.roll_peer.specs.Laws.{EventsNameMachines, NothingElseIsHeard};
 ghost use Rattle.roll_peer.specs.MarkLaws.{TheyKnowOneMark, WhatWasPutIsKnown, WhoHasTheWordHasItsMark};
 ghost use Rattle.roll_peer.specs.OneMatch.{TwoPeersKnowOne, TwoPeersOneMatch};
+ghost use Rattle.roll_peer.specs.Openings.{WhatOpenedStays};
 ghost use Rattle.roll_peer.specs.declared.comparison.TheConstants.{SEARCH_LIMIT};
 ghost use Rattle.roll_peer.specs.declared.digests.TheConstants.{DIGEST_LIMIT};
 ghost use Rattle.roll_peer.specs.declared.event.TheConstants.{EVENT_LIMIT};
@@ -41,6 +42,12 @@ pub fn two_peers_one_match()
 /// rows needn't be settled there.
 pub fn two_peers_know_one()
     ensures { TwoPeersKnowOne }
+{}
+
+/// A session keeps the opening that its network was opened beside, whatever the machines of the match call later, and whatever the
+/// network does.
+pub fn what_opened_stays()
+    ensures { WhatOpenedStays }
 {}
 
 /// A mark comes with its word: each machine that has a word of a player knows the mark that the player's owner knows of it, and none if

@@ -35,7 +35,7 @@ pub use event::PeerEvent;
 pub use following::Seating;
 pub use laws::{
     events_name_machines, limits_are, nothing_else_is_heard, two_peers_know_one,
-    two_peers_one_match, who_has_the_word_has_its_mark,
+    two_peers_one_match, what_opened_stays, who_has_the_word_has_its_mark,
 };
 pub use peer::Peer;
 pub use received::{Ignored, Received};

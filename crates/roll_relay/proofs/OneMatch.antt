@@ -17,13 +17,14 @@ use Rattle.roll_laws.proofs.Sound.{onward_played, sound_played, Sound}
 use Rattle.roll_member.proofs.Taking.{settled_on}
 use Rattle.roll_peer.proofs.Alike.{two_peers_one_match}
 use Rattle.roll_peer.proofs.Later.{called_on}
+use Rattle.roll_peer.specs.PeerWorlds.{Continues}
 use Rattle.roll_peer.specs.Requests.{Beside}
 use Rattle.roll_session.proofs.Following.{ever_of, law_of}
 use Rattle.roll_session.specs.Headline.{words_of}
 use Rattle.roll_session.specs.Seen.{FollowsLog, Seen, Step}
 use Rattle.roll_relay.specs.OneMatch.{HoldersAreOne, HoldersGoOn, HoldsBack}
 use Rattle.roll_relay.specs.Told.{after_word, asked_words, told, words_among, Fits, Takes}
-use Rattle.roll_relay.proofs.Told.{first_takes, played_told, player_told, told_stays, with_none}
+use Rattle.roll_relay.proofs.Told.{first_takes, many_told, played_told, player_told, told_stays, with_none}
 
 -- ---- what is settled
 
@@ -157,13 +158,11 @@ first_is s (w ∷ words) p frame f e =
           later.2 ∙ ap (λ o. length (option_map_or (λ (player : Player). player.words) o [])) same,
         )
 
-pub holders_go_on : HoldersGoOn
-holders_go_on step old new words room place follows called fits still p =
-    go (first_frame words (p + 1)) refl (called_on step old new follows called p)
+words_go_on : (old new : Seen) (words : List RemoteWord) (q : ℕ) → Fits old words → Fits new words
+    → (more : List ℕ) × (words_of new q ≡ words_of old q ++ more)
+    → (more : List ℕ) × (words_of (told new words) q ≡ words_of (told old words) q ++ more)
+words_go_on old new words q fits still on = go (first_frame words q) refl on
   where
-    q : ℕ
-    q = p + 1
-
     none_told : (s : Seen) → words_among words q ≡ [] → words_of (told s words) q ≡ words_of s q
     none_told s none =
         ap (λ o. option_map_or (λ (player : Player). player.words) o [])
@@ -183,3 +182,13 @@ holders_go_on step old new words room place follows called fits still p =
           words_told new words q after.0 after.1 ∙ ap (λ ws. ws ++ words_among words q) same
               ∙ sym (words_told old words q before.0 before.1) ∙ sym (append-nil (words_of (told old words) q)),
         )
+
+pub holders_go_on : HoldersGoOn
+holders_go_on step old new words room place follows called fits still = record {
+  words = λ p. words_go_on old new words (p + 1) fits still (on.words p);
+  players = many_told new words ∙ on.players ∙ sym (many_told old words);
+  opening = (told_stays new words).opening ∙ on.opening ∙ sym (told_stays old words).opening;
+}
+  where
+    on : Continues old new
+    on = called_on step old new follows called
