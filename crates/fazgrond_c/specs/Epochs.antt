@@ -11,12 +11,11 @@ use Rattle.roll_peer.specs.declared.received.Ignored.{Ignored}
 use Rattle.roll_peer.specs.declared.refusal.MarkRefusal.{MarkRefusal}
 use Rattle.roll_peer.specs.declared.refusal.OtherSession.{OtherSession}
 use Rattle.roll_relay.specs.Relaying.{IsNext}
-use Rattle.roll_requests.specs.Ended.{Ended}
 use Rattle.roll_requests.specs.declared.request.Request.{Request}
 use Rattle.roll_chain.specs.Epochs.{judged_in, shared_peer, turned_in, GoesOnIn, HearsBefore, SendsBefore, IsNextBefore as IsNextOfPast}
 use Rattle.roll_chain.specs.declared.epochs.Epochs.{Epochs}
 use Rattle.roll_chain.specs.declared.seam_refusal.SeamRefusal.{SeamRefusal}
-use Rattle.roll_session.specs.Gameless.{still}
+use Rattle.roll_session.specs.Gameless.{still, Bare}
 use Rattle.roll_session.specs.Seen.{Seen}
 use Rattle.roll_wire.specs.declared.datagram.Mark.{Mark}
 use Rattle.fazgrond_c.specs.EpochKinds.{epoch_out, IsMarkFaulty, IsMarkOf}
@@ -35,7 +34,7 @@ use Rattle.fazgrond_c.specs.declared.network.Network.{Network}
 -- ---- a turn
 
 -- a turn begins for the epochs of a match, if there are any
-abbrev pub turned_with : Option (Epochs Ended) → Network → Network
+abbrev pub turned_with : Option (Epochs (Bare ℕ)) → Network → Network
 turned_with None network = network
 turned_with (Some e) network =
     record network { peer = judged_in e (shared_peer e network.peer); epochs = Some (turned_in e network.peer) }
@@ -46,18 +45,18 @@ epoch_turned network = turned_with network.epochs network
 -- ---- the epoch before
 
 -- what is known of the players of a session that has ended
-abbrev pub seen_of : Ended → Seen
+abbrev pub seen_of : Bare ℕ → Seen
 seen_of e = e.seen
 
 -- it hears bytes, or they aren't heard; without epochs they are sealed for nothing here
-abbrev pub IsHeardBefore : (bytes : List ℕ) → (now : ℕ) → (old new : Option (Epochs Ended)) → ℤ → Type 0
+abbrev pub IsHeardBefore : (bytes : List ℕ) → (now : ℕ) → (old new : Option (Epochs (Bare ℕ))) → ℤ → Type 0
 IsHeardBefore bytes now old new code = MatchOption old
     ((new ≡ None) × (code ≡ pos 301))
     (λ e. IsSomeAnd new (λ later. (result : Result Unit Ignored) × HearsBefore seen_of still bytes now e later result
     × (code ≡ code_of_receipt result)))
 
 -- what goes out in it beside what is sent
-abbrev pub IsNextBefore : (old new : Option (Epochs Ended)) → Option (ℕ × List ℕ) → Type 0
+abbrev pub IsNextBefore : (old new : Option (Epochs (Bare ℕ))) → Option (ℕ × List ℕ) → Type 0
 IsNextBefore old new said = MatchOption old
     ((new ≡ None) × (said ≡ None))
     (λ e. IsSomeAnd new (λ later. IsNextOfPast e later said))
@@ -107,7 +106,7 @@ abbrev pub is_own : ℕ → Seat → Bool
 is_own player seat = is_numbered player && (owner_of seat (player - 1) == seat.me)
 
 -- why a mark would be void, if the match goes on in epochs
-abbrev pub fault_with : ℕ → Mark → Option (Epochs Ended) → Option MarkFault
+abbrev pub fault_with : ℕ → Mark → Option (Epochs (Bare ℕ)) → Option MarkFault
 fault_with player mark None = None
 fault_with player mark (Some e) = mark_fault e.chain player mark
 
@@ -176,8 +175,8 @@ frames_by (Ok (Some closing)) frame had = frame
 frames_by (Err why) frame had = had
 
 -- a match goes on in its next epoch, or it doesn't
-pub record GoesOnWith (e : Epochs Ended) (old new : Network) (before after : Live) (had wrote : ℕ) (code : ℤ) : Type 0 where
-  pub later : Epochs Ended
+pub record GoesOnWith (e : Epochs (Bare ℕ)) (old new : Network) (before after : Live) (had wrote : ℕ) (code : ℤ) : Type 0 where
+  pub later : Epochs (Bare ℕ)
   pub later_is : new.epochs ≡ Some later
   pub result : Result (Option (List Request)) SeamRefusal
   pub goes : GoesOnIn e later (judged_in e old.peer) new.peer old.relay new.relay before.session after.session result
@@ -218,7 +217,7 @@ GoesOnJudged old new before after had wrote code =
     ⊎ (is_over_in old before × GoesOnTold old new before after had wrote code)
 
 -- marks are judged
-abbrev pub judged_with : Option (Epochs Ended) → Network → Network
+abbrev pub judged_with : Option (Epochs (Bare ℕ)) → Network → Network
 judged_with None network = network
 judged_with (Some e) network = record network { peer = judged_in e network.peer }
 

@@ -2,7 +2,7 @@
 use Rattle.std.specs.Prelude.{◌≡◌, ◌⊎◌, ℕ, ℤ, pos, List, Option, Some, None, option_and_then, IfNone, IfSome, MatchOption, if◌then◌else◌}
 use Rattle.roll_frame.specs.Core.{Core}
 use Rattle.roll_contact.specs.Contacts.{is_playing}
-use Rattle.roll_requests.specs.Ended.{Ended}
+use Rattle.roll_session.specs.Gameless.{Bare}
 use Rattle.roll_chain.specs.declared.past.Past.{Past}
 use Rattle.roll_viewer.specs.Ends.{Hosted, host_sends, host_told, ignored_by_host, opened_host, HostHears}
 use Rattle.roll_viewer.specs.Lines.{after_bye, after_refusal, farewell, fault_of, is_silent, opened as what_is_in, silence}
@@ -69,7 +69,7 @@ pub record IsTelling (core : Core) (now : ℕ) (old new : Hosted) (before after 
   pub written : AreWritten bytes before after had size code
 
 -- the same of settled rows of the epoch before, as long as that is kept
-abbrev pub past_in : Network → Option (Past Ended)
+abbrev pub past_in : Network → Option (Past (Bare ℕ))
 past_in network = option_and_then (λ e. e.past) network.epochs
 
 abbrev pub IsTellingBefore : Network → (now : ℕ) → (old new : Hosted) → (before after : List ℕ) → (had size : ℕ) → ℤ → Type 0

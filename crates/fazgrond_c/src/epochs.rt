@@ -25,8 +25,7 @@ use roll_frame::{Refusal, Settings};
 use roll_mesh::PLAYER_LIMIT;
 use roll_peer::{MatchSettings, OpenRefusal, Peer};
 use roll_relay::Relay;
-use roll_requests::Ended;
-use roll_session::Networked;
+use roll_session::{Core, Networked};
 use std::alloc::Global;
 
 /// Opens a peer whose match goes on in epochs beside a session, which is only read. Machines that own no player in the
@@ -115,7 +114,7 @@ fn open_epochs(
     base: MatchSettings,
     terms: Terms,
     comers: u64,
-) -> Result<(Peer, Epochs<Ended>), OpenRefusal>
+) -> Result<(Peer, Epochs<Core<u32>>), OpenRefusal>
     ensures opened { IfOk result
         (λ it. IsOpenedWithout (chain_in base terms comers live.now.session.seen)
         live.now.session.seen it.0) }

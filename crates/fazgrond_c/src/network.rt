@@ -7,7 +7,7 @@ ghost use Rattle.roll_relay.specs.declared.held.TheConstants.{TURN_LIMIT};
 use roll_chain::Epochs;
 use roll_peer::Peer;
 use roll_relay::{Held, Relay, RemoteWord};
-use roll_requests::Ended;
+use roll_session::Core;
 
 /// The network of a match at one machine.
 #[derive(Drop)]
@@ -18,12 +18,12 @@ pub struct Network {
     /// What it carries for others, and has carried.
     pub relay: Relay,
     /// How the match goes on, if it does so in epochs.
-    pub epochs: Option<Epochs<Ended>>,
+    pub epochs: Option<Epochs<Core<u32>>>,
 }
 
 impl Network {
     /// One that holds words back for so many turns at most; for 0, none.
-    pub fn new(peer: Peer, turns: u32, relay: Relay, epochs: Option<Epochs<Ended>>) -> Network
+    pub fn new(peer: Peer, turns: u32, relay: Relay, epochs: Option<Epochs<Core<u32>>>) -> Network
         requires { turns ≤ TURN_LIMIT }
         ensures peer { result.peer ≡ peer }
         ensures held { IsHeldFor turns result.held }

@@ -11,14 +11,15 @@ use Rattle.roll_chain.specs.Again.{given_again, ArePlayed}
 use Rattle.roll_chain.specs.Calls.{DeclinesHere, MakesHere}
 use Rattle.roll_chain.specs.declared.epochs.Epochs.{Epochs}
 use Rattle.roll_chain.specs.declared.past.Past.{Past}
+use Rattle.roll_session.specs.Gameless.{Bare}
 use Rattle.roll_session.specs.Seen.{Seen, Step}
 use Rattle.roll_chain.specs.GoingOnHere.{GoesOnward, HasGoneOn, IsWhyNotFollowed, IsWhyNotGone}
 use Rattle.roll_chain.specs.declared.onward_refusal.OnwardRefusal.{OnwardRefusal}
 
-pub gone_on : (step : Step) (old new : Epochs Seen) (peer next : Peered) (relay carrying : Carrying) (session started after : Seen)
-    (past : Past Seen) (o : Opening) (e : Ending) (all : Bool) → IsOver session old.chain peer e → o ≡ opening_after session old.chain peer e
+pub gone_on : {N : Type 0} (step : Step) (old new : Epochs (Bare N)) (peer next : Peered) (relay carrying : Carrying) (session started after : Seen)
+    (past : Past (Bare N)) (o : Opening) (e : Ending) (all : Bool) → IsOver session old.chain peer e → o ≡ opening_after session old.chain peer e
     → new.past ≡ Some past → GoesOnward step o old.chain new.chain peer next relay carrying session started past
-    → ArePlayed (MakesHere step) (DeclinesHere step) started (given_again new.chain.terms next.settings.me past.session o.end) after all
+    → ArePlayed (MakesHere step) (DeclinesHere step) started (given_again new.chain.terms next.settings.me past.session.seen o.end) after all
     → HasGoneOn step old new peer next relay carrying session after
 gone_on step old new peer next relay carrying session started after past o e all over is there goes again = record {
   ending = e;
@@ -28,7 +29,7 @@ gone_on step old new peer next relay carrying session started after past o e all
   past_is = there;
   goes_on = subst (λ (x : Opening). GoesOnward step x old.chain new.chain peer next relay carrying session started past) is goes;
   all = all;
-  again = subst (λ (x : Opening). ArePlayed (MakesHere step) (DeclinesHere step) started (given_again new.chain.terms next.settings.me past.session x.end) after all) is again;
+  again = subst (λ (x : Opening). ArePlayed (MakesHere step) (DeclinesHere step) started (given_again new.chain.terms next.settings.me past.session.seen x.end) after all) is again;
 }
 
 pub not_gone_on : (step : Step) (chain : Chain) (peer : Peered) (session : Seen) (why : OnwardRefusal) (o : Opening) (e : Ending)

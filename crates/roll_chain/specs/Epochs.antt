@@ -13,7 +13,6 @@ use Rattle.roll_peer.specs.declared.received.Ignored.TheVariants.{NotSealed}
 use Rattle.roll_peer.specs.declared.refusal.OtherSession.{OtherSession}
 use Rattle.roll_requests.specs.Asked.{Asked}
 use Rattle.roll_requests.specs.declared.request.Request.{Request}
-use Rattle.roll_requests.specs.Ended.{Ended}
 use Rattle.roll_chain.specs.Again.{given_again, ArePlayed}
 use Rattle.roll_chain.specs.Calls.{DeclinesCall, MakesCall}
 use Rattle.roll_chain.specs.GoingOnElsewhere.{GoesOn, IsWhyNotGone}
@@ -21,6 +20,7 @@ use Rattle.roll_chain.specs.Pasts.{turned_past, Hears, IsNextOf, Sends}
 use Rattle.roll_chain.specs.declared.epochs.Epochs.{Epochs}
 use Rattle.roll_chain.specs.declared.past.Past.{Past}
 use Rattle.roll_chain.specs.declared.seam_refusal.SeamRefusal.{SeamRefusal}
+use Rattle.roll_session.specs.Gameless.{Bare}
 use Rattle.roll_session.specs.Seen.{Seen, Step}
 
 -- ---- a turn
@@ -83,31 +83,31 @@ IsNextBefore old new said =
 -- ---- the next epoch
 
 -- nothing is changed
-pub record IsUnmoved (old new : Epochs Ended) (peer next : Peered) (relay carrying : Carrying) (session started : Asked) : Type 0 where
+pub record IsUnmoved (old new : Epochs (Bare ℕ)) (peer next : Peered) (relay carrying : Carrying) (session started : Asked) : Type 0 where
   pub epochs : new ≡ old
   pub peer_is : next ≡ peer
   pub relay_is : carrying ≡ relay
   pub session_is : started ≡ session
 
 -- this one is over, and the next one has begun; what own players gave past the end was given again, as far as that is taken
-pub record HasGoneOn (old new : Epochs Ended) (peer next : Peered) (relay carrying : Carrying) (session after : Asked) (closing : List Request)
+pub record HasGoneOn (old new : Epochs (Bare ℕ)) (peer next : Peered) (relay carrying : Carrying) (session after : Asked) (closing : List Request)
     : Type 0 where
   pub ending : Ending
   pub over : IsOver session.seen old.chain peer ending
   pub started : Asked
-  pub past : Past Ended
+  pub past : Past (Bare ℕ)
   pub past_is : new.past ≡ Some past
   pub goes_on : GoesOn (opening_after session.seen old.chain peer ending) old.chain new.chain peer next relay carrying session started past closing
   pub all : Bool
   pub again : ArePlayed MakesCall DeclinesCall started (given_again new.chain.terms next.settings.me past.session.seen ending.frame) after all
 
 -- or the next one doesn't open
-pub record HasNotGoneOn (old : Epochs Ended) (peer : Peered) (session : Asked) (why : SeamRefusal) : Type 0 where
+pub record HasNotGoneOn (old : Epochs (Bare ℕ)) (peer : Peered) (session : Asked) (why : SeamRefusal) : Type 0 where
   pub ending : Ending
   pub over : IsOver session.seen old.chain peer ending
   pub refused : IsWhyNotGone (opening_after session.seen old.chain peer ending) old.chain session why
 
-abbrev pub GoesOnIn : (old new : Epochs Ended) → (peer next : Peered) → (relay carrying : Carrying) → (session after : Asked)
+abbrev pub GoesOnIn : (old new : Epochs (Bare ℕ)) → (peer next : Peered) → (relay carrying : Carrying) → (session after : Asked)
     → Result (Option (List Request)) SeamRefusal → Type 0
 GoesOnIn old new peer next relay carrying session after (Ok None) =
     IsUnmoved old new peer next relay carrying session after

@@ -15,8 +15,9 @@ use Rattle.roll_peer.specs.Peered.{IsWhyNot, Peered}
 use Rattle.roll_peer.specs.declared.refusal.OpenRefusal.TheVariants.{NoMemory as NoneLeft}
 use Rattle.roll_relay.specs.Relaying.{opened_beside}
 use Rattle.roll_requests.specs.Asked.{Asked, Leads}
-use Rattle.roll_requests.specs.Ended.{end_refusal, Ended, IsEnded}
+use Rattle.roll_requests.specs.Ended.{end_refusal, IsEnded}
 use Rattle.roll_requests.specs.declared.request.Request.{Request}
+use Rattle.roll_session.specs.Gameless.{Bare}
 use Rattle.roll_session.specs.Changes.{IsWhy}
 use Rattle.roll_session.specs.Started.{first_seen}
 use Rattle.slab.specs.Slab.{slab_len}
@@ -36,7 +37,7 @@ pub record IsStartedAs (settings : Settings) (limit : ℕ) (e : Asked) : Type 0 
 -- how the next epoch opens: its session starts, its network follows this one's, and opened so also what carries beside it; this one's
 -- network, what it carried and its session, which had no job out and has ended by these last requests, are the epoch before
 pub record GoesOn (o : Opening) (old new : Chain) (peer next : Peered) (relay carrying : Carrying) (session started : Asked)
-    (past : Past Ended) (closing : List Request) : Type 0 where
+    (past : Past (Bare ℕ)) (closing : List Request) : Type 0 where
   pub none_out : slab_len session.jobs ≡ 0
   pub starts : IsStartedAs o.settings session.limit started
   pub follows : IsFollowedAs started.seen (settings_in old o.terms) peer o.seating next

@@ -1,5 +1,5 @@
 -- A session that has its game, and the network beside it, go on in the next epoch.
-use Rattle.std.specs.Prelude.{◌≡◌, ◌⊎◌, Bool, Some}
+use Rattle.std.specs.Prelude.{◌≡◌, ◌⊎◌, [], Bool, Some}
 use Rattle.roll_carry.specs.Carrying.{Carrying}
 use Rattle.roll_chain.specs.Chains.{settings_in}
 use Rattle.roll_chain.specs.Judging.{IsOver}
@@ -18,6 +18,8 @@ use Rattle.roll_chain.specs.Calls.{DeclinesHere, MakesHere}
 use Rattle.roll_chain.specs.declared.epochs.Epochs.{Epochs}
 use Rattle.roll_chain.specs.declared.past.Past.{Past}
 use Rattle.roll_session.specs.Changes.{IsWhy}
+use Rattle.roll_game.specs.Counts.{no_calls}
+use Rattle.roll_session.specs.Gameless.{with_game, Bare}
 use Rattle.roll_session.specs.Seen.{Seen, Step}
 use Rattle.roll_session.specs.Started.{first_seen}
 use Rattle.roll_chain.specs.States.{value_at, IsWhyNoState}
@@ -31,25 +33,27 @@ pub record IsStartedFrom (step : Step) (o : Opening) (session started : Seen) : 
   pub start : started ≡ first_seen o.settings (value_at step session o.end) started.counts
 
 -- how the next epoch opens: its session starts from the end of this one's, its network follows this one's, and opened so also what
--- carries beside it; this one's network, what it carried and its session are the epoch before
-pub record GoesOnward (step : Step) (o : Opening) (old new : Chain) (peer next : Peered) (relay carrying : Carrying) (session started : Seen)
-    (past : Past Seen) : Type 0 where
+-- carries beside it; this one's network, what it carried and its session without the game are the epoch before
+pub record GoesOnward {N : Type 0} (step : Step) (o : Opening) (old new : Chain) (peer next : Peered) (relay carrying : Carrying) (session started : Seen)
+    (past : Past (Bare N)) : Type 0 where
   pub starts : IsStartedFrom step o session started
   pub follows : IsFollowedAs started (settings_in old o.terms) peer o.seating next
   pub chain : new ≡ followed_by old o
   pub carries : carrying ≡ opened_beside next
-  pub past_is : past ≡ record { peer = peer; relay = relay; session = session }
+  pub past_peer : past.peer ≡ peer
+  pub past_relay : past.relay ≡ relay
+  pub past_session : past.session.seen ≡ with_game [] no_calls session
 
 -- this epoch is over, and the next one has begun; what own players gave past the end was given again, as far as that is taken
-pub record HasGoneOn (step : Step) (old new : Epochs Seen) (peer next : Peered) (relay carrying : Carrying) (session after : Seen) : Type 0 where
+pub record HasGoneOn {N : Type 0} (step : Step) (old new : Epochs (Bare N)) (peer next : Peered) (relay carrying : Carrying) (session after : Seen) : Type 0 where
   pub ending : Ending
   pub over : IsOver session old.chain peer ending
   pub started : Seen
-  pub past : Past Seen
+  pub past : Past (Bare N)
   pub past_is : new.past ≡ Some past
   pub goes_on : GoesOnward step (opening_after session old.chain peer ending) old.chain new.chain peer next relay carrying session started past
   pub all : Bool
-  pub again : ArePlayed (MakesHere step) (DeclinesHere step) started (given_again new.chain.terms next.settings.me past.session ending.frame) after all
+  pub again : ArePlayed (MakesHere step) (DeclinesHere step) started (given_again new.chain.terms next.settings.me past.session.seen ending.frame) after all
 
 -- ---- why not
 

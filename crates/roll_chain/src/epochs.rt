@@ -13,8 +13,8 @@ use crate::seam_refusal::SeamRefusal;
 use arrayvec::ArrayVec;
 use roll_peer::{Ignored, OtherSession, Peer};
 use roll_relay::Relay;
-use roll_requests::{Closing, Elsewhere, Ended};
-use roll_session::Networked;
+use roll_requests::{Closing, Elsewhere};
+use roll_session::{Core, Networked};
 use roll_wire::DATAGRAM_LIMIT;
 use std::alloc::Global;
 
@@ -113,7 +113,7 @@ impl<S: Networked + Drop> Epochs<S> {
     }
 }
 
-impl Epochs<Ended> {
+impl Epochs<Core<u32>> {
     /// Goes on in the next epoch, if this one is over: the session starts anew, with the same limit of slots, and so
     /// does the network. What own players gave past the end is given again, and frames past it are run again, as far as
     /// the new session takes that: the answer doesn't say how far it did. Answers the last requests of the session that
@@ -162,7 +162,13 @@ impl Epochs<Ended> {
     }
 
     /// What own players gave past the end of the epoch before is given again.
-    fn play_again(&self, peer: &Peer, past: &Past<Ended>, session: &mut Elsewhere, end: u32) -> bool
+    fn play_again(
+        &self,
+        peer: &Peer,
+        past: &Past<Core<u32>>,
+        session: &mut Elsewhere,
+        end: u32,
+    ) -> bool
         ensures { ArePlayed MakesCall DeclinesCall session.old
             (given_again self.now.chain.terms peer.now.settings.me past.now.session.seen end)
             session.new result }

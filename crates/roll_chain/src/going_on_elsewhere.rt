@@ -11,7 +11,8 @@ use crate::seam_refusal::SeamRefusal;
 use roll_frame::Refusal;
 use roll_peer::{OpenRefusal, Peer};
 use roll_relay::Relay;
-use roll_requests::{Closing, Elsewhere, Ended};
+use roll_requests::{Closing, Elsewhere};
+use roll_session::Core;
 use std::alloc::Global;
 use std::mem;
 
@@ -27,7 +28,7 @@ pub(crate) fn go_on(
     relay: &mut Relay,
     session: &mut Elsewhere,
     opening: &Opening,
-) -> Result<(Past<Ended>, Closing), SeamRefusal>
+) -> Result<(Past<Core<u32>>, Closing), SeamRefusal>
     ensures goes_on { IfOk result (λ it. GoesOn opening.now chain.old chain.new peer.old peer.new
         relay.old relay.new session.old session.new it.0 it.1) }
     ensures chain { OnErr result (chain.new ≡ chain.old) }
@@ -91,7 +92,7 @@ fn take_over(
     session: &mut Elsewhere,
     next: Elsewhere,
     end: u32,
-) -> Result<(Relay, Ended, Closing), SeamRefusal>
+) -> Result<(Relay, Core<u32>, Closing), SeamRefusal>
     ensures taken { IfOk result (λ it. (it.0 ≡ relay.old) × IsEnded session.old end it.1 it.2) }
     ensures next { OnOk result (session.new ≡ next) }
     ensures carries { OnOk result (relay.new ≡ opened_beside peer.now) }

@@ -16,7 +16,7 @@ use roll_frame::Refusal;
 use roll_game::{Game, StartFault};
 use roll_peer::{OpenRefusal, Peer};
 use roll_relay::Relay;
-use roll_session::Session;
+use roll_session::{Core, Session};
 use std::alloc::Global;
 use std::mem;
 
@@ -24,22 +24,23 @@ use std::mem;
 /// players gave past the end is given again, and frames past it are run again, as far as the new session takes that: it
 /// isn't said how far it did. Marks are judged first.
 ///
-/// The engine is another than the session's: it runs the rows up to the end that aren't settled, and then plays the next epoch. The one of
-/// the session that ended stays with that, in [`Epochs::past`].
+/// The engine is another than the session's: it runs the rows up to the end that aren't settled, and then plays the next epoch. The one
+/// that played this epoch is handed out.
 ///
 /// # Errors
 ///
 /// Why it doesn't go on, with the engine. Nothing else is changed then.
 pub fn go_on<G: Game + Drop>(
     alloc: Global,
-    epochs: &mut Epochs<Session<G>>,
+    epochs: &mut Epochs<Core<G::Snapshot>>,
     game: G,
     peer: &mut Peer,
     relay: &mut Relay,
     session: &mut Session<G>,
-) -> Result<(), OnwardFault<G>>
+) -> Result<G, OnwardFault<G>>
     ensures gone { OnOk result (HasGoneOn G.step epochs.old epochs.new
         (judged_in epochs.old peer.old) peer.new relay.old relay.new session.old session.new) }
+    ensures engine { IfOk result (λ engine. G.call_counts engine ≡ session.old.counts) }
     ensures refused { IfErr result (λ fault. IsWhyNotGone G.step epochs.old.chain
         (judged_in epochs.old peer.old) session.old fault.why) }
     ensures epochs { OnErr result (epochs.new ≡ epochs.old) }
@@ -54,14 +55,15 @@ pub fn go_on<G: Game + Drop>(
 /// The same once marks are judged.
 fn go_on_judged<G: Game + Drop>(
     alloc: Global,
-    epochs: &mut Epochs<Session<G>>,
+    epochs: &mut Epochs<Core<G::Snapshot>>,
     game: G,
     peer: &mut Peer,
     relay: &mut Relay,
     session: &mut Session<G>,
-) -> Result<(), OnwardFault<G>>
+) -> Result<G, OnwardFault<G>>
     ensures gone { OnOk result (HasGoneOn G.step epochs.old epochs.new peer.old peer.new
         relay.old relay.new session.old session.new) }
+    ensures engine { IfOk result (λ engine. G.call_counts engine ≡ session.old.counts) }
     ensures refused { IfErr result
         (λ fault. IsWhyNotGone G.step epochs.old.chain peer.old session.old fault.why) }
     ensures epochs { OnErr result (epochs.new ≡ epochs.old) }
@@ -82,16 +84,17 @@ fn go_on_judged<G: Game + Drop>(
         session,
         &opening,
     ) {
-        Ok(past) => {
+        Ok((past, engine)) => {
             play_again(&epochs.chain, peer, &past, session, opening.end);
             epochs.past = Some(past);
-            Ok(())
+            Ok(engine)
         }
         Err(fault) => Err(fault),
     }
 }
 
-/// The session of the next epoch takes the place of this one's, and so do the network and what carries beside it.
+/// The session of the next epoch takes the place of this one's, and so do the network and what carries beside it. This one's engine is
+/// handed out.
 ///
 /// # Errors
 ///
@@ -104,9 +107,10 @@ fn follow<G: Game + Drop>(
     relay: &mut Relay,
     session: &mut Session<G>,
     opening: &Opening,
-) -> Result<Past<Session<G>>, OnwardFault<G>>
-    ensures goes_on { IfOk result (GoesOnward G.step opening.now chain.old chain.new peer.old
-        peer.new relay.old relay.new session.old session.new) }
+) -> Result<(Past<Core<G::Snapshot>>, G), OnwardFault<G>>
+    ensures goes_on { IfOk result (λ it. GoesOnward G.step opening.now chain.old chain.new peer.old
+        peer.new relay.old relay.new session.old session.new it.0) }
+    ensures engine { IfOk result (λ it. G.call_counts it.1 ≡ session.old.counts) }
     ensures refused { IfErr result
         (λ fault. IsWhyNotFollowed G.step opening.now chain.old session.old fault.why) }
     ensures chain { OnErr result (chain.new ≡ chain.old) }
@@ -128,11 +132,13 @@ fn follow<G: Game + Drop>(
         return Err(unopened(OpenRefusal::NoMemory, next));
     };
     *chain = later;
-    Ok(Past {
+    let parts = mem::replace(session, next).into_parts();
+    let past = Past {
         peer: past,
         relay: mem::replace(relay, carrying),
-        session: mem::replace(session, next),
-    })
+        session: parts.core,
+    };
+    Ok((past, parts.game))
 }
 
 /// The session of the next epoch, which starts from the state at the end of this one.
@@ -176,12 +182,12 @@ fn unopened<G: Game + Drop>(why: OpenRefusal, next: Session<G>) -> OnwardFault<G
 fn play_again<G: Game + Drop>(
     chain: &Chain,
     peer: &Peer,
-    past: &Past<Session<G>>,
+    past: &Past<Core<G::Snapshot>>,
     session: &mut Session<G>,
     end: u32,
 ) -> bool
     ensures { ArePlayed (MakesHere G.step) (DeclinesHere G.step) session.old
-        (given_again chain.now.terms peer.now.settings.me past.now.session end) session.new result }
+        (given_again chain.now.terms peer.now.settings.me past.now.session.seen end) session.new result }
 {
     let again = Again {
         terms: chain.terms(),

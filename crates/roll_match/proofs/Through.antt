@@ -7,21 +7,35 @@ use Rattle.roll_epoch.specs.declared.marks.Ending.{Ending}
 use Rattle.roll_frame.specs.Paths.{run}
 use Rattle.roll_frame.specs.Timeline.{timeline}
 use Rattle.roll_relay.proofs.OneMatch.{holders_are_one}
+use Rattle.roll_relay.specs.OneMatch.{HoldsBack}
 use Rattle.roll_mesh.specs.Worlds.{Match}
 use Rattle.roll_chain.specs.States.{value_at}
 use Rattle.roll_peer.proofs.Alike.{two_peers_know_one}
+use Rattle.roll_peer.proofs.Openings.{what_opened_stays}
 use Rattle.roll_peer.specs.Known.{IsKnownTo}
-use Rattle.roll_peer.specs.OneMatch.{AreOne}
+use Rattle.roll_peer.specs.OneMatch.{AreOne, IsMachine}
 use Rattle.roll_peer.specs.PeerWorlds.{IsPlayedTo}
 use Rattle.roll_session.specs.Seen.{Seen, Step}
 use Rattle.roll_match.specs.Epochs.{Epochs}
-use Rattle.roll_match.specs.OneMatch.{AreOneThrough, IsOneEpoch, OneMatch, OpenedAlike, Pair, StayTogether, WhatGoesOn}
+use Rattle.roll_match.specs.OneMatch.{AreOneThrough, InEach, IsOneEpoch, OneMatch, OpenedAlike, Pair, StayTogether, WhatGoesOn}
 use Rattle.roll_match.proofs.Ahead.{known_ahead, opening_ahead, rows_ahead}
 use Rattle.roll_match.proofs.Each.{each_is_played}
+
+at_first : (P : Pair → Type 0) (first : Pair) (more : List Pair) → InEach P first more → P first
+at_first P first [] each = each
+at_first P first (next ∷ more) each = each.0
 
 module _ (games : ℕ → Step) (epochs : Epochs) (i j : ℕ) (matches : ℕ → Match) where
   abbrev Stay : Pair → List Pair → Type 0
   Stay first more = StayTogether games epochs i j matches first more
+
+  abbrev AreThere : Pair → Type 0
+  AreThere both = IsMachine (games i) (epochs both.number) i both.one.beside × IsMachine (games j) (epochs both.number) j both.other.beside
+
+  abbrev Wait : Pair → Type 0
+  Wait both =
+      HoldsBack (games i) both.one.session both.one.words both.one.beside
+      × HoldsBack (games j) both.other.session both.other.words both.other.beside
 
   in_epoch : (first : Pair) (more : List Pair) → Stay first more → (number : ℕ) → IsPlayedTo (matches number) games (epochs number)
   in_epoch first more stay number = each_is_played matches games epochs number stay.played
@@ -79,17 +93,30 @@ module _ (games : ℕ → Step) (epochs : Epochs) (i j : ℕ) (matches : ℕ →
         (known_ahead (games i) now.one.session now.one.words now.one.beside stay.waits.0.0 now.one.end.frame stay.known.0.0)
         (known_ahead (games j) now.other.session now.other.words now.other.beside stay.waits.0.1 now.one.end.frame known_other)
 
+    -- the sessions of the next epoch have the openings that they began with
+    began_one : next.one.session.opening ≡ value_at (games i) now.one.session now.one.end.frame
+    began_one =
+        sym (opening_ahead (games i) next.one.session next.one.words next.one.beside (at_first Wait next more stay.waits.1).0)
+        ∙ what_opened_stays (matches next.number) games (epochs next.number) i next.one.beside
+        (value_at (games i) now.one.session now.one.end.frame) stay.began.0.0 (at_first AreThere next more stay.there.1).0.is
+
+    began_other : next.other.session.opening ≡ value_at (games j) now.other.session now.other.end.frame
+    began_other =
+        sym (opening_ahead (games j) next.other.session next.other.words next.other.beside (at_first Wait next more stay.waits.1).1)
+        ∙ what_opened_stays (matches next.number) games (epochs next.number) j next.other.beside
+        (value_at (games j) now.other.session now.other.end.frame) stay.began.0.1 (at_first AreThere next more stay.there.1).1.is
+
     -- the next epoch opens alike
     next_alike : OpenedAlike games epochs i j next
     next_alike = record {
       terms = stay.next.0.0.terms ∙ together.1 ∙ sym stay.next.0.1.terms;
       profile = stay.next.0.0.profile ∙ stay.opened.profile ∙ sym stay.next.0.1.profile;
       comers = stay.next.0.0.comers ∙ stay.opened.comers ∙ sym stay.next.0.1.comers;
-      opening = λ alike. stay.began.0.0
+      opening = λ alike. began_one
           ∙ (λ k. run (games i) (sym open_one k) (sym rows_one k))
           ∙ known.states alike (open_one ∙ stay.opened.opening alike ∙ sym open_other)
           ∙ (λ k. run (games j) (open_other k) (rows_other k))
-          ∙ ap (λ (e : Ending). value_at (games j) now.other.session e.frame) together.0 ∙ sym stay.began.0.1;
+          ∙ ap (λ (e : Ending). value_at (games j) now.other.session e.frame) together.0 ∙ sym began_other;
     }
 
     -- and so all is supposed of the others
@@ -119,11 +146,12 @@ module _ (games : ℕ → Step) (epochs : Epochs) (i j : ℕ) (matches : ℕ →
 pub one_match : OneMatch
 one_match matches games epochs i j first more stay = through games epochs i j matches first more stay
 
-pub what_goes_on : WhatGoesOn
-what_goes_on step old new peer next relay carrying session after gone = record {
+pub what_goes_on : (N : Type 0) → WhatGoesOn N
+what_goes_on N step old new peer next relay carrying session after gone = record {
   over = gone.over;
   known = gone.goes_on.starts.known;
   opening = ap (λ (s : Seen). s.opening) gone.goes_on.starts.start;
+  begins = (_, _, gone.goes_on.follows.begins);
   next = record {
     terms = ap (λ (c : Chain). c.terms) gone.goes_on.chain;
     profile = ap (λ (c : Chain). c.profile) gone.goes_on.chain;

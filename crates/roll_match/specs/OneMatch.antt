@@ -14,9 +14,12 @@ use Rattle.roll_chain.specs.GoingOnHere.{HasGoneOn}
 use Rattle.roll_chain.specs.States.{value_at}
 use Rattle.roll_peer.specs.Known.{IsKnownTo}
 use Rattle.roll_peer.specs.OneMatch.{AreAlike, AreOne, IsHere, IsMachine}
-use Rattle.roll_peer.specs.Peered.{Peered}
+use Rattle.roll_peer.specs.Openings.{BeganWith}
+use Rattle.roll_peer.specs.Peered.{BeginsAs, Peered}
 use Rattle.roll_peer.specs.Requests.{Beside}
+use Rattle.roll_peer.specs.declared.settings.MatchSettings.{MatchSettings}
 use Rattle.roll_chain.specs.declared.epochs.Epochs.{Epochs}
+use Rattle.roll_session.specs.Gameless.{Bare}
 use Rattle.roll_session.specs.Seen.{Seen, Step}
 use Rattle.roll_match.specs.Epochs.{ArePlayedTo, Epochs as AllEpochs}
 
@@ -91,10 +94,10 @@ module _ (games : ℕ → Step) (epochs : AllEpochs) (i j : ℕ) where
     -- the session of each knew all rows before that end
     pub known : AtEachEnd
         (λ now next. IsKnownTo now.one.session now.one.end.frame × IsKnownTo now.other.session now.other.end.frame) first more
-    -- the session of the next epoch began with the game's state there
+    -- the network of the next epoch was opened beside a session that began with the game's state there
     pub began : AtEachEnd
-        (λ now next. (next.one.session.opening ≡ value_at (games i) now.one.session now.one.end.frame)
-        × (next.other.session.opening ≡ value_at (games j) now.other.session now.other.end.frame)) first more
+        (λ now next. BeganWith (matches next.number) games (epochs next.number) i (value_at (games i) now.one.session now.one.end.frame)
+        × BeganWith (matches next.number) games (epochs next.number) j (value_at (games j) now.other.session now.other.end.frame)) first more
     -- the next epoch opened by the terms that follow
     pub next : AtEachEnd
         (λ now next. IsNext now.one.chain now.one.beside.peer now.one.end next.one.chain
@@ -126,14 +129,15 @@ OneMatch =
 -- ---- what a call says that goes on
 
 -- what is supposed of a machine that goes on is what its call answers
-pub record IsOnward (step : Step) (old new : Chain) (peer : Peered) (session started : Seen) (e : Ending) : Type 0 where
+pub record IsOnward (step : Step) (old new : Chain) (peer following : Peered) (session started : Seen) (e : Ending) : Type 0 where
   pub over : IsOver session old peer e
   pub known : IsKnownTo session e.frame
   pub opening : started.opening ≡ value_at step session e.frame
+  pub begins : (settings : MatchSettings) × (gone : List ℕ) × BeginsAs started settings gone following
   pub next : IsNext old peer e new
 
-abbrev pub WhatGoesOn : Type 0
-WhatGoesOn =
-    (step : Step) (old new : Epochs Seen) (peer next : Peered) (relay carrying : Carrying) (session after : Seen)
+abbrev pub WhatGoesOn : (N : Type 0) → Type 0
+WhatGoesOn N =
+    (step : Step) (old new : Epochs (Bare N)) (peer next : Peered) (relay carrying : Carrying) (session after : Seen)
     → (gone : HasGoneOn step old new peer next relay carrying session after)
-    → IsOnward step old.chain new.chain peer session gone.started gone.ending
+    → IsOnward step old.chain new.chain peer next session gone.started gone.ending

@@ -15,10 +15,10 @@ use Rattle.roll_peer.specs.Peered.{Peered}
 use Rattle.roll_peer.specs.Receiving.{moment_of}
 use Rattle.roll_peer.specs.declared.refusal.PeerRefusal.{PeerRefusal}
 use Rattle.roll_requests.specs.Asked.{Asked}
-use Rattle.roll_requests.specs.Ended.{Ended}
 use Rattle.roll_chain.specs.Epochs.{judged_in, shared_peer, turned_in, HasNotGoneOn}
 use Rattle.roll_chain.specs.declared.epochs.Epochs.{Epochs}
 use Rattle.roll_chain.specs.declared.seam_refusal.SeamRefusal.{SeamRefusal}
+use Rattle.roll_session.specs.Gameless.{Bare}
 use Rattle.roll_session.specs.Seen.{Seen, Step}
 use Rattle.roll_match.specs.declared.one.Match.{Match}
 
@@ -33,11 +33,11 @@ abbrev pub Stays : (S P : Type 0) → Type 1
 Stays S P = (old : Epochs P) → Peered → S → Type 0
 
 -- so it is of a session that has its game
-abbrev pub StaysHere : Step → Epochs Seen → Peered → Seen → Type 0
+abbrev pub StaysHere : {N : Type 0} → Step → Epochs (Bare N) → Peered → Seen → Type 0
 StaysHere step old peer session = (why : OnwardRefusal) × IsWhyNotOnward step old.chain peer session why
 
 -- and of one whose game is elsewhere
-abbrev pub StaysElsewhere : Epochs Ended → Peered → Asked → Type 0
+abbrev pub StaysElsewhere : Epochs (Bare ℕ) → Peered → Asked → Type 0
 StaysElsewhere old peer session =
     ((e : Ending) → IsOver session.seen old.chain peer e → ⊥) ⊎ ((why : SeamRefusal) × HasNotGoneOn old peer session why)
 

@@ -7,8 +7,8 @@ use roll_chain::{Epochs, OnwardFault};
 use roll_game::Game;
 use roll_peer::Peer;
 use roll_relay::Relay;
-use roll_requests::{Closing, Elsewhere, Ended};
-use roll_session::{Networked, Session, Settling};
+use roll_requests::{Closing, Elsewhere};
+use roll_session::{Core, Networked, Session, Settling};
 use std::alloc::Global;
 
 /// A session beside which a match goes on in epochs: one that has its game, or one whose game is elsewhere.
@@ -17,11 +17,12 @@ pub trait Lasting: Settling {
     ghost use Rattle.roll_peer.specs.Peered.{Peered};
     ghost use Rattle.roll_chain.specs.declared.epochs.Epochs.{Epochs};
 
-    /// What it is in the epoch before.
+    /// What it is in the epoch before: a session without its game.
     type Past: Networked + Drop;
     /// What the session of the next epoch needs: an engine of the game, or nothing where the game is elsewhere.
     type Engine: Drop;
-    /// What the end of an epoch leaves to the program: nothing, or requests that the game is to carry out before all later ones.
+    /// What the end of an epoch leaves to the program: the engine that played it, or requests that the game is to carry out before all
+    /// later ones.
     type Last: Drop;
 
     /// The epoch was over, and the next one has begun.
@@ -59,27 +60,27 @@ impl<G: Game + Drop> Lasting for Session<G> {
     ghost use Rattle.roll_match.specs.Turning.{StaysHere};
     ghost use Rattle.roll_chain.specs.GoingOnHere.{HasGoneOn};
 
-    type Past = Session<G>;
+    type Past = Core<G::Snapshot>;
 
     type Engine = G;
 
-    type Last = ();
+    type Last = G;
 
     ghost has_gone_on = { λ old new peer next relay carrying session after last.
-        HasGoneOn G.step old new peer next relay carrying session after };
+        HasGoneOn G.step old new peer next relay carrying session after × (G.call_counts last ≡ session.counts) };
 
     ghost has_not_gone_on = { λ old peer session. StaysHere G.step old peer session };
 
     fn go_on(
         &mut self,
         alloc: Global,
-        epochs: &mut Epochs<Session<G>>,
+        epochs: &mut Epochs<Core<G::Snapshot>>,
         peer: &mut Peer,
         relay: &mut Relay,
         engine: G,
-    ) -> Result<(), G> {
+    ) -> Result<G, G> {
         match roll_chain::go_on(alloc, epochs, engine, peer, relay, self) {
-            Ok(()) => Ok(()),
+            Ok(engine) => Ok(engine),
             Err(OnwardFault { game, .. }) => Err(game),
         }
     }
@@ -89,7 +90,7 @@ impl Lasting for Elsewhere {
     ghost use Rattle.roll_match.specs.Turning.{StaysElsewhere};
     ghost use Rattle.roll_chain.specs.Epochs.{HasGoneOn};
 
-    type Past = Ended;
+    type Past = Core<u32>;
 
     type Engine = ();
 
@@ -103,7 +104,7 @@ impl Lasting for Elsewhere {
     fn go_on(
         &mut self,
         alloc: Global,
-        epochs: &mut Epochs<Ended>,
+        epochs: &mut Epochs<Core<u32>>,
         peer: &mut Peer,
         relay: &mut Relay,
         engine: (),

@@ -1,7 +1,5 @@
 //! Laws of a match, each the contract of a function that makes no call.
 ghost use Rattle.roll_match.specs.Deeds.{WhatBeginsIsCalled, WhatIsHeardIsCalled, WhatIsSentIsCalled};
-ghost use Rattle.roll_requests.specs.Ended.{Ended};
-ghost use Rattle.roll_session.specs.Seen.{Seen};
 ghost use Rattle.roll_match.specs.Epochs.{EachIsPlayed};
 ghost use Rattle.roll_match.specs.InTime.{NoInputWaitsLonger};
 ghost use Rattle.roll_match.specs.Judged.{SoundStays, WhatIsJudged};
@@ -31,9 +29,8 @@ pub fn what_is_heard_is_called()
 
 /// What the start of a turn makes of a match is calls of its network in this epoch, one after another: who is heard in the epoch before, or
 /// gone, is so in this one too; marks are judged; and the network polls.
-pub fn what_begins_is_called()
-    ensures here { WhatBeginsIsCalled Seen }
-    ensures elsewhere { WhatBeginsIsCalled Ended }
+pub fn what_begins_is_called<S: Lasting>()
+    ensures { WhatBeginsIsCalled S.Past }
 {}
 
 /// What a match makes of a datagram that goes to a machine, straight or by another machine that carries it, is one call of its network in
@@ -50,8 +47,8 @@ pub fn no_input_waits_longer<S: Lasting>()
 {}
 
 /// What `one_match` supposes of a machine that goes on in its next epoch is what the call answers that goes on.
-pub fn what_goes_on()
-    ensures { WhatGoesOn }
+pub fn what_goes_on<S>()
+    ensures { WhatGoesOn S }
 {}
 
 /// Once marks are judged, as `turn` does, those are void that are so by the rules, and no others; and that stays so until marks come.

@@ -96,8 +96,8 @@ impl<S: Lasting> Match<S> {
     }
 
     /// Gives what the session of the next epoch needs, without which an epoch that is over doesn't end: an engine of the game, other
-    /// than the session's own, which stays with the epoch before. Where the game is elsewhere it is `()`, and says that the game has
-    /// carried out all requests so far. It is used up where an epoch ends.
+    /// than the session's own, which `turn` hands out where the epoch ends. Where the game is elsewhere it is `()`, and says that the
+    /// game has carried out all requests so far. It is used up where an epoch ends.
     pub fn give_engine(&mut self, engine: S::Engine)
         ensures { self.new ≡ record self.old { engine = Some engine } }
     {

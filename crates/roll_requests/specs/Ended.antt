@@ -1,4 +1,4 @@
--- A session of a game elsewhere that has ended, and what its last requests lead to, for every game.
+-- How a session of a game elsewhere ends, and what its last requests lead to, for every game.
 use Rattle.std.specs.Prelude.{◌≡◌, ◌≤◌, ℕ, ◌+◌, ◌-◌, List, ◌++◌, nat_lt, Option, Some, None, if◌then◌else◌}
 use Rattle.roll_frame.specs.Core.{Core, settled}
 use Rattle.roll_frame.specs.Games.{Value}
@@ -7,18 +7,13 @@ use Rattle.roll_frame.specs.Timeline.{Player, row_at, timeline}
 use Rattle.roll_frame.specs.declared.refusal.Refusal.{Refusal}
 use Rattle.roll_frame.specs.declared.refusal.Refusal.TheVariants.{InvalidRequest}
 use Rattle.roll_frame.specs.declared.row.Cell.{Cell}
-use Rattle.roll_session.specs.Gameless.{still}
-use Rattle.roll_session.specs.Others.{hears_more, hears_nothing, Hears}
-use Rattle.roll_session.specs.Seen.{Seen, Step}
+use Rattle.roll_session.specs.Gameless.{Bare}
+use Rattle.roll_session.specs.Seen.{Step}
 use Rattle.roll_requests.specs.Asked.{Asked, IsSettledSlot, Leads}
 use Rattle.roll_requests.specs.Carried.{carried_out, first}
 use Rattle.roll_requests.specs.Late.{AreAlike}
 use Rattle.roll_requests.specs.Requests.{end_requests}
 use Rattle.roll_requests.specs.declared.request.Request.{Request}
-
--- what is known of its players stays
-pub record Ended : Type 0 where
-  pub seen : Seen
 
 -- why a session can't end at a frame, if there is memory: it lies before the settled one
 abbrev pub end_refusal : Core → ℕ → Option Refusal
@@ -35,20 +30,10 @@ pub record IsOpenedAt (players : List Player) (frame : ℕ) (requests : List Req
 
 -- a session ended at a frame by these last requests: from the settled state on the rows up to there are run, and all slots are freed
 -- before the state is saved; so the next session can start from it
-pub record IsEnded (e : Asked) (end : ℕ) (ended : Ended) (closing : List Request) : Type 0 where
+pub record IsEnded (e : Asked) (end : ℕ) (ended : Bare ℕ) (closing : List Request) : Type 0 where
   pub within : settled e.seen.core ≤ end
   pub seen : ended.seen ≡ e.seen
   pub slot : ℕ
   pub slot_is : IsSettledSlot e.saves.tree slot
   pub asked : closing ≡ e.requests ++ end_requests e.at slot e.taken (open_row e.seen.core) (end - settled e.seen.core)
   pub opens : (past : List Request) → Leads past e → IsOpenedAt e.seen.core.players end (past ++ closing)
-
--- what others say is heard
-abbrev pub KeepsEnded : (old new : Ended) → Type 0
-KeepsEnded old new = Hears still old.seen new.seen
-
-pub ended_keeps_itself : (it : Ended) → KeepsEnded it it
-ended_keeps_itself it = hears_nothing still it.seen
-
-pub ended_keeps_on : (a b c : Ended) → KeepsEnded a b → KeepsEnded b c → KeepsEnded a c
-ended_keeps_on a b c one two = hears_more still a.seen b.seen c.seen one two

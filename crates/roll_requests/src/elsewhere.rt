@@ -26,7 +26,6 @@ ghost use Rattle.roll_requests.specs.declared.request.Request.{Request as Asks};
 use crate::asking::{ask_end, ask_job, ask_roll};
 use crate::closing::Closing;
 use crate::declined::Declined;
-use crate::ended::Ended;
 use crate::job::{JOBS_OUT, Job, free_number};
 use crate::limits::SLOTS;
 use crate::plans::{RollPlan, plan_end, plan_job, plan_roll};
@@ -414,7 +413,7 @@ impl Elsewhere {
     ///
     /// The session itself, unchanged, as [`reserve_end`](Self::reserve_end) has it: if the frame lies before the settled one, or
     /// the allocator has no room for the requests.
-    pub fn end(self, end: u32) -> Result<(Ended, Closing), Elsewhere>
+    pub fn end(self, end: u32) -> Result<(Core<u32>, Closing), Elsewhere>
         ensures ended { IfOk result (λ it. IsEnded self end it.0 it.1) }
         ensures unchanged { IfErr result (λ session. session ≡ self) }
     {
@@ -432,7 +431,7 @@ impl Elsewhere {
             ..
         } = session;
         ask_end(&mut queue, at, slot, &core, &taken, end);
-        Ok((Ended::new(core), Closing::of(queue)))
+        Ok((core, Closing::of(queue)))
     }
 
     /// The claim of the last roll: what was kept before it, and why it started where it did.

@@ -1,8 +1,8 @@
-use Rattle.std.proofs.Common.{◌≡◌, rules, w32, inl, inr, refl, subst, ap, sym, ◌∙◌, Option}
+use Rattle.std.proofs.Common.{◌≡◌, rules, w32, inl, inr, refl, subst, ap, sym, ◌∙◌, ℕ, Option}
 use Rattle.std.specs.Prelude.{FitsSigned, pos}
 use Rattle.std.proofs.Common.{of_z, to_z}
 use Rattle.std.proofs.lemmas.Int.{to_z-of_z}
-use Rattle.roll_requests.specs.Ended.{Ended}
+use Rattle.roll_session.specs.Gameless.{Bare}
 use Rattle.roll_chain.specs.declared.epochs.Epochs.{Epochs}
 use Rattle.fazgrond_c.specs.Epochs.{IsHeardBefore}
 use Rattle.fazgrond_c.proofs.peer_calls.receive.Goals as goal
@@ -21,7 +21,7 @@ returns-then-code-eq-NOT_SEALED c =
       rest = c.hear_before.ensures.rest;
       past = inl (
         here,
-        subst (λ (e : Option (Epochs Ended)). IsHeardBefore c.args.bytes.now c.args.now e c.hear_before.new.network.epochs c.hear_before.result)
+        subst (λ (e : Option (Epochs (Bare ℕ))). IsHeardBefore c.args.bytes.now c.args.now e c.hear_before.new.network.epochs c.hear_before.result)
             c.receive_now-code.ensures.epochs c.hear_before.ensures.heard,
       );
     })

@@ -1,4 +1,4 @@
-use Rattle.std.proofs.Common.{◌≡◌, ◌++◌, ◌∙◌, ◌-◌, List, ap, sym}
+use Rattle.std.proofs.Common.{◌≡◌, ◌++◌, ◌∙◌, ◌-◌, List, ap, refl, sym}
 use Rattle.roll_frame.specs.Core.{settled}
 use Rattle.roll_requests.specs.Asked.{Asked}
 use Rattle.roll_requests.specs.Ended.{open_row}
@@ -18,7 +18,7 @@ returns-clause-ended c =
     rw (← c.session.view_is)
     (record {
       within = within;
-      seen = c.new.ensures;
+      seen = refl;
       slot = slot;
       slot_is = c.settled_slot-slot.ensures;
       asked = asked;

@@ -1,6 +1,6 @@
 use Rattle.std.proofs.Common.{refl}
 use Rattle.roll_chain.proofs.GoneOnElsewhere.{gone_on, not_gone_on}
-use Rattle.roll_chain.proofs.epochs.Epochs+Ended.go_on_judged.Goals as goal
+use Rattle.roll_chain.proofs.epochs.Epochs+Core+u32.go_on_judged.Goals as goal
 
 pub returns-in-Ok : goal.returns-in-Ok
 returns-in-Ok c =

@@ -1,7 +1,7 @@
 use Rattle.std.proofs.Common.{subst}
 use Rattle.roll_peer.specs.Peered.{Peered}
 use Rattle.roll_chain.specs.Epochs.{GoesOnIn}
-use Rattle.roll_chain.proofs.epochs.Epochs+Ended.go_on.Goals as goal
+use Rattle.roll_chain.proofs.epochs.Epochs+Core+u32.go_on.Goals as goal
 
 pub returns : goal.returns
 returns c =
