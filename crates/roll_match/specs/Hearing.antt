@@ -1,5 +1,5 @@
 -- What a match makes of bytes that come.
-use Rattle.std.specs.Prelude.{◌≡◌, ℕ, List, Result, Ok, Err}
+use Rattle.std.specs.Prelude.{◌≡◌, ℕ, List, [], Result, Ok, Err, OnErr}
 use Rattle.roll_relay.specs.Relayed.{relayed_beside, HearsHeldBy}
 use Rattle.roll_relay.specs.Told.{IsHeldFault}
 use Rattle.roll_relay.specs.declared.fault.HeldFault.{HeldFault}
@@ -23,12 +23,13 @@ module _ {S P E L : Type 0} where
   abbrev pub ahead : Seen → Match S P E L → Relayed
   ahead s it = relayed_beside s it.held.words.items it.peer it.relay
 
-  -- bytes are heard in this epoch, or not; or the words that wait have no room, and nothing is changed
+  -- bytes are heard in this epoch, or not, and then what waits goes on waiting; or that has no room, and nothing is changed
   abbrev pub HearsHere : Step → (bytes : List ℕ) → (now : ℕ) → (before after : Seen) → (old new : Match S P E L)
       → Result (Result Heard Ignored) HeldFault → Type 0
   HearsHere step bytes now before after old new (Ok said) =
       HearsHeldBy step now (ahead before old) (ahead after new) bytes said
       × (new ≡ record old { peer = new.peer; held = new.held; relay = new.relay })
+      × OnErr said ((new.held ≡ old.held) × (old.held.words.items ≡ [] → after ≡ before))
   HearsHere step bytes now before after old new (Err why) =
       IsHeldFault before old.held.words.items why × (new ≡ old) × (after ≡ before)
 
