@@ -1,9 +1,7 @@
 //! The other machine, on a thread of its own: a session, and the match beside it.
-use crate::machine::{
-    Fault, LAST_FRAME, MOST, buttons, digest, moment, open, the_chain, the_match,
-};
+use crate::machine::{Fault, LAST_FRAME, MOST, buttons, digest, moment, open, the_match};
 use crate::wire::Wire;
-use fazgrond::{Match, PeerEvent, Refusal, Session, ends_in_roll};
+use fazgrond::{Chain, Match, PeerEvent, Profile, Refusal, Session, ends_in_roll};
 use game_fighter::{Fight, State};
 use std::alloc::Global;
 use std::sync::atomic::{AtomicBool, Ordering};
@@ -37,7 +35,8 @@ fn play_on<R: Wait>(
     wire: &mut Wire,
     over: &AtomicBool,
 ) -> Result<State, Fault> {
-    let mut it = Match::open(alloc, session, the_match(ME), the_chain(ME), 0)?;
+    let chain = Chain::of_one_epoch(the_match(ME), Profile::Ggpo);
+    let mut it = Match::open(alloc, session, the_match(ME), chain, 0)?;
     let mut turn: u32 = 0;
     for _ in rt.forever() {
         if over.load(Ordering::SeqCst) {

@@ -1,8 +1,5 @@
 //! What both machines of the match have alike.
-use fazgrond::epochs::Terms;
-use fazgrond::{
-    Chain, HeldFault, MatchSettings, OpenRefusal, PeerRefusal, Profile, Refusal, Session, Settings,
-};
+use fazgrond::{HeldFault, MatchSettings, OpenRefusal, PeerRefusal, Refusal, Session, Settings};
 use game_fighter::{Fight, State};
 use std::alloc::{AllocError, Global};
 use thiserror::Error;
@@ -70,19 +67,6 @@ pub fn the_match(me: u8) -> MatchSettings {
         takes_marks: false,
         words: 1,
     }
-}
-
-/// The only epoch of the match, as this one doesn't go on in others.
-pub fn the_chain(me: u8) -> Chain {
-    let terms = Terms {
-        id: 0,
-        base: 0,
-        owners: [0, 1, 255, 255, 255, 255, 255, 255],
-        delays: [2, 0, 0, 0, 0, 0, 0, 0],
-        threshold: 8,
-        words: 1,
-    };
-    Chain::new(the_match(me), Profile::Ggpo, terms, 0)
 }
 
 /// The moment of a turn: it stands for a clock.

@@ -3,11 +3,11 @@
 ghost use Rattle.std.specs.Prelude.{◌≡◌};
 ghost use Rattle.fazgrond.specs.Hosted.{places_of};
 
-use crate::machine::{Fault, LAST_FRAME, MOST, buttons, digest, moment, the_chain, the_match};
+use crate::machine::{Fault, LAST_FRAME, MOST, buttons, digest, moment, the_match};
 use crate::wire::Wire;
 use fazgrond::{
-    Feed, Habits, HeldFault, Host, Match, PeerEvent, Refusal, RemoteWord, Session, Spectator,
-    ends_in_roll,
+    Chain, Feed, Habits, HeldFault, Host, Match, PeerEvent, Profile, Refusal, RemoteWord, Session,
+    Spectator, ends_in_roll,
 };
 use game_fighter::{Fight, State};
 use std::alloc::Global;
@@ -52,7 +52,8 @@ pub struct Side {
 
 impl Side {
     pub fn new(alloc: Global, host: &Host<Fight>, wire: Wire) -> Result<Side, Fault> {
-        let it = Match::open(alloc, host.session(), the_match(ME), the_chain(ME), TURNS)?;
+        let chain = Chain::of_one_epoch(the_match(ME), Profile::Ggpo);
+        let it = Match::open(alloc, host.session(), the_match(ME), chain, TURNS)?;
         let mut feed = Feed::new(alloc)?;
         let receiver = feed.add()?;
         match Spectator::new(Fight::new(), &Fight::opening(), receiver) {

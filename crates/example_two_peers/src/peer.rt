@@ -2,7 +2,6 @@
 ghost use Rattle.std.specs.Prelude.{◌≤◌};
 
 use crate::line::Line;
-use fazgrond::epochs::Terms;
 use fazgrond::{
     Chain, HeldFault, Match, MatchSettings, OpenRefusal, PeerEvent, PeerRefusal, Profile, Refusal,
     Session, Settings, ends_in_roll,
@@ -72,7 +71,8 @@ impl Side {
     {
         let player = me + 1;
         let session = open(alloc, settings(player, delay)?)?;
-        match Match::open(alloc, &session, the_match(me), the_chain(me), 0) {
+        let chain = Chain::of_one_epoch(the_match(me), Profile::Ggpo);
+        match Match::open(alloc, &session, the_match(me), chain, 0) {
             Ok(it) => Ok(Side {
                 session,
                 it,
@@ -236,19 +236,6 @@ fn the_match(me: u8) -> MatchSettings {
         takes_marks: false,
         words: 1,
     }
-}
-
-/// The only epoch of the match, as this one doesn't go on in others.
-fn the_chain(me: u8) -> Chain {
-    let terms = Terms {
-        id: 0,
-        base: 0,
-        owners: [0, 1, 255, 255, 255, 255, 255, 255],
-        delays: [2, 1, 0, 0, 0, 0, 0, 0],
-        threshold: 8,
-        words: 1,
-    };
-    Chain::new(the_match(me), Profile::Ggpo, terms, 0)
 }
 
 /// A digest of a state, by FNV-1a.

@@ -25,6 +25,17 @@ first_chain base profile terms comers = record {
   stays = replicate MACHINE_LIMIT false;
 }
 
+-- the terms of an epoch that no other follows
+abbrev pub only_terms : MatchSettings → Terms
+only_terms base = record {
+  id = 0;
+  base = 0;
+  owners = base.owners;
+  delays = replicate PLAYER_LIMIT 0;
+  threshold = 0;
+  words = base.words;
+}
+
 -- by which numbers pairs seal in an epoch
 abbrev pub numbers_in : List ℕ → ℕ → List ℕ
 numbers_in base id = map (λ m. key_of (slice_index base m) id) (range_with_len 0 MACHINE_LIMIT)

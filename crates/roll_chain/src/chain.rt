@@ -2,7 +2,7 @@
 ghost use Rattle.std.specs.Prelude.{◌≡◌, ◌<◌, true};
 ghost use Rattle.std.specs.List.{list_all, list_any, range_with_len};
 ghost use Rattle.roll_mesh.specs.declared.limits.TheConstants.{MACHINE_LIMIT, PLAYER_LIMIT};
-ghost use Rattle.roll_chain.specs.Chains.{first_chain, has_given, has_stayed, is_past_over, is_seen, is_word_of, numbers_in, settings_in};
+ghost use Rattle.roll_chain.specs.Chains.{first_chain, has_given, has_stayed, is_past_over, is_seen, is_word_of, numbers_in, only_terms, settings_in};
 
 use roll_epoch::{Terms, hash_of, key_of};
 use roll_frame::Profile;
@@ -35,6 +35,22 @@ impl Chain {
             comers,
             stays: [false; MACHINE_LIMIT],
         }
+    }
+
+    /// A match of these settings that takes no marks: so it stays in its first epoch.
+    pub fn of_one_epoch(base: MatchSettings, profile: Profile) -> Chain
+        ensures { result ≡ first_chain base profile (only_terms base) 0 }
+    {
+        let owners = base.owners;
+        let terms = Terms {
+            id: 0,
+            base: 0,
+            owners,
+            delays: [0; PLAYER_LIMIT],
+            threshold: 0,
+            words: base.words,
+        };
+        Chain::new(base, profile, terms, 0)
     }
 
     /// How this epoch opened.
