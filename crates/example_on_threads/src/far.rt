@@ -36,7 +36,7 @@ fn play_on<R: Wait>(
     over: &AtomicBool,
 ) -> Result<State, Fault> {
     let chain = Chain::of_one_epoch(the_match(ME), Profile::Ggpo);
-    let mut it = Match::open(alloc, session, the_match(ME), chain, 0)?;
+    let mut it = Match::open(alloc, session, chain, 0)?;
     let mut turn: u32 = 0;
     for _ in rt.forever() {
         if over.load(Ordering::SeqCst) {

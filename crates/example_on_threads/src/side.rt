@@ -53,7 +53,7 @@ pub struct Side {
 impl Side {
     pub fn new(alloc: Global, host: &Host<Fight>, wire: Wire) -> Result<Side, Fault> {
         let chain = Chain::of_one_epoch(the_match(ME), Profile::Ggpo);
-        let it = Match::open(alloc, host.session(), the_match(ME), chain, TURNS)?;
+        let it = Match::open(alloc, host.session(), chain, TURNS)?;
         let mut feed = Feed::new(alloc)?;
         let receiver = feed.add()?;
         match Spectator::new(Fight::new(), &Fight::opening(), receiver) {

@@ -72,7 +72,7 @@ impl Side {
         let player = me + 1;
         let session = open(alloc, settings(player, delay)?)?;
         let chain = Chain::of_one_epoch(the_match(me), Profile::Ggpo);
-        match Match::open(alloc, &session, the_match(me), chain, 0) {
+        match Match::open(alloc, &session, chain, 0) {
             Ok(it) => Ok(Side {
                 session,
                 it,

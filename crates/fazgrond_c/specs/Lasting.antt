@@ -1,7 +1,7 @@
 -- A peer is opened whose match goes on in epochs.
 use Rattle.std.specs.Prelude.{◌≡◌, ◌≢◌, ◌⊎◌, ◌==◌, ◌&&◌, ◌||◌, ℕ, ℤ, pos, Bool, true, false, not, Option, Some, None, IfSome, slice_index}
 use Rattle.std.specs.List.{list_all, range_with_len}
-use Rattle.roll_chain.specs.Chains.{first_chain, settings_in}
+use Rattle.roll_chain.specs.Chains.{first_chain, settings_of}
 use Rattle.roll_chain.specs.Sharing.{parted_until, vacant}
 use Rattle.roll_chain.specs.declared.chain.Chain.{Chain}
 use Rattle.roll_epoch.specs.Ends.{owner_of}
@@ -46,16 +46,12 @@ pub record AreGivenBoth (given : MatchIn) (epoch : EpochIn) (base : MatchSetting
 
 -- how a match goes on from this epoch beside a session
 abbrev pub chain_in : MatchSettings → Terms → (comers : ℕ) → Seen → Chain
-chain_in base terms comers s = first_chain base s.settings.profile terms comers
-
--- with which settings its network opens
-abbrev pub opening_of : Chain → MatchSettings
-opening_of chain = settings_in chain chain.terms
+chain_in base terms comers s = first_chain true base s.settings.profile terms comers
 
 -- a peer that was opened beside a session for this epoch, and regards as gone whoever owns no player in it
 pub record IsOpenedWithout (chain : Chain) (s : Seen) (peer : Peered) : Type 0 where
   pub first : Peered
-  pub opened : IsOpenedAs s (opening_of chain) first
+  pub opened : IsOpenedAs s (settings_of chain) first
   pub tied : IsTied s first.member.mesh
   pub without : peer ≡ parted_until (vacant chain.terms) MACHINE_LIMIT first
 
@@ -66,9 +62,9 @@ pub record IsLasting (given : MatchIn) (epoch : EpochIn) (s : Seen) (network : N
   pub are : AreGivenBoth given epoch base terms
   pub even : are_even terms ≡ true
   pub played : is_played terms s.settings base.me ≡ true
-  pub accepted : join_refusal s (seat_of (opening_of (chain_in base terms given.comers s))) ≡ None
+  pub accepted : join_refusal s (seat_of (settings_of (chain_in base terms given.comers s))) ≡ None
   pub drawn : base.draw ≢ 0
-  pub numbered : has_numbers (opening_of (chain_in base terms given.comers s)) ≡ true
+  pub numbered : has_numbers (settings_of (chain_in base terms given.comers s)) ≡ true
   pub opened : IsOpenedWithout (chain_in base terms given.comers s) s network.peer
   pub held : IsHeldFor given.held_turns network.held
   pub carrying : network.relay ≡ opened_beside network.peer
@@ -94,8 +90,8 @@ pub record IsUnopened (given : MatchIn) (epoch : EpochIn) (s : Seen) (code : ℤ
   pub terms : Terms
   pub are : AreGivenBoth given epoch base terms
   pub fault : OpenRefusal
-  pub why : IsWhyNot s (opening_of (chain_in base terms given.comers s)) fault
-  pub code_is : code ≡ pos (code_of_opening (opening_of (chain_in base terms given.comers s)) fault)
+  pub why : IsWhyNot s (settings_of (chain_in base terms given.comers s)) fault
+  pub code_is : code ≡ pos (code_of_opening (settings_of (chain_in base terms given.comers s)) fault)
 
 -- why no peer is opened beside a session: another version's match or epoch; numbers with no room where they belong, or of another
 -- session; an input with two delays; what is no match for the session; or memory ran out

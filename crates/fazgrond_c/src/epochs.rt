@@ -1,5 +1,6 @@
 //! Matches that go on in epochs, for games in other languages.
 ghost use Rattle.std.specs.Prelude.{◌≡◌, ◌≢◌, ◌<◌, pos, true, None, IfErr, IfOk, OnOk};
+ghost use Rattle.roll_chain.specs.Chains.{settings_of};
 ghost use Rattle.roll_chain.specs.Comers.{ticket_for};
 ghost use Rattle.roll_member.specs.Joined.{join_refusal};
 ghost use Rattle.roll_peer.specs.Peered.{IsWhyNot};
@@ -8,7 +9,7 @@ ghost use Rattle.roll_mesh.specs.declared.limits.TheConstants.{PLAYER_LIMIT};
 ghost use Rattle.fazgrond_c.specs.Handles.{network_in, FillsBy, Makes, MakesBeside, ReadsSome, Writes, WritesBeside};
 ghost use Rattle.fazgrond_c.specs.Epochs.{epoch_in, stayed_in, GoesOnBeside, IsMarkedIn, IsSentBefore};
 ghost use Rattle.fazgrond_c.specs.PeerKinds.{code_of_opening};
-ghost use Rattle.fazgrond_c.specs.Lasting.{are_delayed, chain_in, is_delayed, is_played, opening_of, IsOpenedLasting, IsOpenedWithout, OpensLasting};
+ghost use Rattle.fazgrond_c.specs.Lasting.{are_delayed, chain_in, is_delayed, is_played, IsOpenedLasting, IsOpenedWithout, OpensLasting};
 
 use crate::calls::{CLOSED, NOTHING, OTHER_VERSION, open_in};
 use crate::epoch_calls;
@@ -101,7 +102,7 @@ fn chain_beside(live: &Live, base: MatchSettings, terms: Terms, comers: u64) -> 
 /// The number of why its network isn't opened.
 fn code_beside(live: &Live, base: MatchSettings, terms: Terms, comers: u64, why: OpenRefusal) -> i32
     ensures { result ≡ pos
-        (code_of_opening (opening_of (chain_in base terms comers live.now.session.seen)) why) }
+        (code_of_opening (settings_of (chain_in base terms comers live.now.session.seen)) why) }
 {
     let chain = chain_beside(live, base, terms, comers);
     code_of_opening(&chain.settings(), why)
@@ -123,13 +124,13 @@ fn open_epochs(
       past = None;
     }) }
     ensures accepted { OnOk result (join_refusal live.now.session.seen
-        (seat_of (opening_of (chain_in base terms comers live.now.session.seen))) ≡ None) }
+        (seat_of (settings_of (chain_in base terms comers live.now.session.seen))) ≡ None) }
     ensures drawn { OnOk result (base.draw ≢ 0) }
     ensures numbered { OnOk result
-        (has_numbers (opening_of (chain_in base terms comers live.now.session.seen)) ≡ true) }
+        (has_numbers (settings_of (chain_in base terms comers live.now.session.seen)) ≡ true) }
     ensures refused { IfErr result
         (IsWhyNot live.now.session.seen
-        (opening_of (chain_in base terms comers live.now.session.seen))) }
+        (settings_of (chain_in base terms comers live.now.session.seen))) }
 {
     let chain = chain_beside(live, base, terms, comers);
     match Peer::open(alloc, &live.session, chain.settings()) {

@@ -1,6 +1,6 @@
 -- A match that goes on in epochs, as one machine knows it: what stays the same over all epochs, among it the number by which it is known
 -- who may come; how this one opened, and which machines of the epoch before are in it.
-use Rattle.std.specs.Prelude.{ℕ, ◌||◌, ◌&&◌, ◌==◌, List, map, Bool, true, false, nat_lt, replicate, slice_index}
+use Rattle.std.specs.Prelude.{ℕ, ◌||◌, ◌&&◌, ◌==◌, List, map, Bool, true, false, nat_lt, replicate, slice_index, if◌then◌else◌}
 use Rattle.std.specs.List.{list_all, list_any, range_with_len}
 use Rattle.roll_epoch.specs.Ids.{hash_of, key_of}
 use Rattle.roll_epoch.specs.Seats.{machines_to, owners_with_absent}
@@ -16,9 +16,10 @@ use Rattle.roll_chain.specs.declared.chain.Chain.{Chain}
 
 -- ---- the epoch
 
-abbrev pub first_chain : MatchSettings → Profile → Terms → (comers : ℕ) → Chain
-first_chain base profile terms comers = record {
-  base = base;
+-- a match that begins with an epoch of these terms, and whether others follow
+abbrev pub first_chain : (lasts : Bool) → MatchSettings → Profile → Terms → (comers : ℕ) → Chain
+first_chain lasts base profile terms comers = record {
+  base = record base { takes_marks = lasts };
   profile = profile;
   terms = terms;
   comers = comers;
@@ -50,6 +51,10 @@ settings_in chain terms = record chain.base {
   words = terms.words;
   takes_marks = true;
 }
+
+-- with which settings a match opens: those of the epoch; if no other follows, its own
+abbrev pub settings_of : Chain → MatchSettings
+settings_of chain = if chain.base.takes_marks then settings_in chain chain.terms else chain.base
 
 -- ---- who was there before
 

@@ -1,8 +1,8 @@
 //! What is known of a match that goes on in epochs.
-ghost use Rattle.std.specs.Prelude.{◌≡◌, ◌<◌, true};
+ghost use Rattle.std.specs.Prelude.{◌≡◌, ◌<◌, false, true};
 ghost use Rattle.std.specs.List.{list_all, list_any, range_with_len};
 ghost use Rattle.roll_mesh.specs.declared.limits.TheConstants.{MACHINE_LIMIT, PLAYER_LIMIT};
-ghost use Rattle.roll_chain.specs.Chains.{first_chain, has_given, has_stayed, is_past_over, is_seen, is_word_of, numbers_in, only_terms, settings_in};
+ghost use Rattle.roll_chain.specs.Chains.{first_chain, has_given, has_stayed, is_past_over, is_seen, is_word_of, numbers_in, only_terms, settings_in, settings_of};
 
 use roll_epoch::{Terms, hash_of, key_of};
 use roll_frame::Profile;
@@ -11,7 +11,7 @@ use roll_peer::{MatchSettings, Peer};
 
 /// A match that goes on in epochs: parts of it whose machines, owners, delays and threshold stay the same. It stands beside the network
 /// of this epoch, a [`Peer`], and the session beside both: give its calls always the same ones. A program opens it for the epoch in
-/// which it begins, and the network with its `settings`.
+/// which it begins, and the network with its `settings`. A match that takes no marks has one epoch, which never ends.
 #[derive(Clone, Copy, Debug)]
 pub struct Chain {
     pub(crate) base: MatchSettings,
@@ -23,13 +23,16 @@ pub struct Chain {
 
 impl Chain {
     /// A match that begins here with an epoch of these terms. Of the settings each epoch has its own owners, machines and numbers; all
-    /// else is the match's. The profile is that of the sessions. By the number of comers, 64 bits that all machines of the match know, those
+    /// else is the match's, and it takes marks. The profile is that of the sessions. By the number of comers, 64 bits that all machines of the match know, those
     /// are known who may come: see [`ticket_for`]. If it is 0, anybody may by whose mark a machine of the match has somebody come.
     pub fn new(base: MatchSettings, profile: Profile, terms: Terms, comers: u64) -> Chain
-        ensures { result ≡ first_chain base profile terms comers }
+        ensures { result ≡ first_chain true base profile terms comers }
     {
         Chain {
-            base,
+            base: MatchSettings {
+                takes_marks: true,
+                ..base
+            },
             profile,
             terms,
             comers,
@@ -37,9 +40,9 @@ impl Chain {
         }
     }
 
-    /// A match of these settings that takes no marks: so it stays in its first epoch.
+    /// A match of these settings that takes no marks, whatever they say: so it stays in its first epoch.
     pub fn of_one_epoch(base: MatchSettings, profile: Profile) -> Chain
-        ensures { result ≡ first_chain base profile (only_terms base) 0 }
+        ensures { result ≡ first_chain false base profile (only_terms base) 0 }
     {
         let owners = base.owners;
         let terms = Terms {
@@ -50,7 +53,16 @@ impl Chain {
             threshold: 0,
             words: base.words,
         };
-        Chain::new(base, profile, terms, 0)
+        Chain {
+            base: MatchSettings {
+                takes_marks: false,
+                ..base
+            },
+            profile,
+            terms,
+            comers: 0,
+            stays: [false; MACHINE_LIMIT],
+        }
     }
 
     /// How this epoch opened.
@@ -60,12 +72,23 @@ impl Chain {
         &self.terms
     }
 
-    /// With which settings the network of this epoch opens. Their digest has the number of comers in it, a player whom
-    /// nobody owns is of a machine that is absent, and marks are taken.
-    pub fn settings(&self) -> MatchSettings
-        ensures { result ≡ settings_in self.now self.now.terms }
+    /// Whether the match goes on in epochs: it takes marks.
+    pub fn lasts(&self) -> bool
+        ensures { result ≡ self.now.base.takes_marks }
     {
-        self.settings_in(&self.terms)
+        self.base.takes_marks
+    }
+
+    /// With which settings the network of this epoch opens. If the match goes on in epochs, their digest has the number of comers in it,
+    /// and a player whom nobody owns is of a machine that is absent.
+    pub fn settings(&self) -> MatchSettings
+        ensures { result ≡ settings_of self.now }
+    {
+        if self.lasts() {
+            self.settings_in(&self.terms)
+        } else {
+            self.base
+        }
     }
 
     /// With which settings the network of an epoch opens.

@@ -28,4 +28,5 @@ pub use going_on_here::go_on;
 pub use laws::{it_is_later, of_one_number_one_next, over_stays, they_go_on_at_any_time};
 pub use onward_refusal::{OnwardFault, OnwardRefusal};
 pub use past::Past;
+pub use seam::session_settings;
 pub use seam_refusal::SeamRefusal;

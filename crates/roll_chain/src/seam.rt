@@ -102,8 +102,8 @@ impl Chain {
     }
 }
 
-/// The settings of an epoch's session at a machine: its own players are local.
-fn session_settings(after: Settings, terms: &Terms, me: u8) -> Settings
+/// The settings of an epoch's session at a machine: its own players are local, with their delays, and the threshold is the epoch's.
+pub fn session_settings(after: Settings, terms: &Terms, me: u8) -> Settings
     ensures { result ≡ session_settings after terms.now me }
 {
     Settings {

@@ -16,6 +16,7 @@ use Rattle.roll_relay.specs.Turns.{lessened}
 use Rattle.roll_relay.specs.Waits.{wait_on, AreTold, StillWait, Waits, WasTold}
 use Rattle.roll_relay.specs.declared.fault.HeldFault.{HeldFault}
 use Rattle.roll_relay.specs.declared.held.Held.{Held}
+use Rattle.roll_chain.specs.declared.seam_refusal.SeamRefusal.{SeamRefusal}
 use Rattle.roll_inputs.specs.declared.remote_word.RemoteWord.{RemoteWord}
 use Rattle.roll_peer.specs.declared.refusal.OtherSession.{OtherSession}
 use Rattle.roll_peer.specs.declared.refusal.PeerRefusal.{PeerRefusal}
@@ -184,9 +185,10 @@ went_well (Ok count) = 1
 went_well (Err why) = 0
 
 counts_so : {L : Type 0} (now : ℕ) (polled : Result (Result Unit PeerRefusal) HeldFault) (said : Result ℕ HeldFault) (last : Option L)
-    → went_well said ≡ cond (is_turn (TakesTurn now polled said last)) 1 0
-counts_so now polled (Ok count) last = refl
-counts_so now polled (Err why) last = refl
+    (why : Option SeamRefusal)
+    → went_well said ≡ cond (is_turn (TakesTurn now polled said last why)) 1 0
+counts_so now polled (Ok count) last why = refl
+counts_so now polled (Err fault) last why = refl
 
 module _ {S P E L : Type 0} (step past : Step) (seen : S → Seen) (past_seen : P → Seen) (goes : Goes S P L) (stays : Stays S P) where
   abbrev moment : S → Match S P E L → Moment
@@ -233,10 +235,10 @@ module _ {S P E L : Type 0} (step past : Step) (seen : S → Seen) (past_seen : 
   closes true s t old new it = tells_all s t old new it.1
   closes false s t old new it = same s t old new it.0 (ap (λ (m : Match S P E L). m.held) it.1)
 
-  stays_here : (is_closed : Bool) (s t : S) (old new : Match S P E L) → GoesOver goes stays s t old new is_closed None
+  stays_here : (is_closed : Bool) (s t : S) (old new : Match S P E L) (why : Option SeamRefusal) → GoesOver goes stays s t old new is_closed None why
       → Passed 0 (moment s old) (moment t new)
-  stays_here true s t old new it = same s t old new it.0.2 (ap (λ (m : Match S P E L). m.held) it.1)
-  stays_here false s t old new it = same s t old new it.0 (ap (λ (m : Match S P E L). m.held) it.1)
+  stays_here true s t old new why it = same s t old new it.0.2 (ap (λ (m : Match S P E L). m.held) it.1)
+  stays_here false s t old new why it = same s t old new it.0 (ap (λ (m : Match S P E L). m.held) it.1)
 
   marks_after : (player : ℕ) (mark : Mark) (s t : S) (old new : Match S P E L) (said : Result ℕ Unmarked)
       → MarksAfter seen player mark s t old new said → Passed 0 (moment s old) (moment t new)
@@ -266,21 +268,21 @@ module _ {S P E L : Type 0} (step past : Step) (seen : S → Seen) (past_seen : 
   others s t old new log held = held_as 0 s t old old new held (one Other (moment s old) (moment t old) (wait_on (seen s) (seen t) old.held log))
 
   -- a turn as far as the session is told what is due
-  due : (now : ℕ) (s t : S) (old new : Match S P E L) (polled : _) (handed : Result ℕ HeldFault) (last : Option L)
-      → (it : Turns seen goes stays now s t old new polled handed last) → Passed (went_well handed) (moment s old) (moment it.told_due it.due)
-  due now s t old new polled handed last it =
+  due : (now : ℕ) (s t : S) (old new : Match S P E L) (polled : _) (handed : Result ℕ HeldFault) (last : Option L) (why : Option SeamRefusal)
+      → (it : Turns seen goes stays now s t old new polled handed last why) → Passed (went_well handed) (moment s old) (moment it.told_due it.due)
+  due now s t old new polled handed last why it =
       both 0 (went_well handed) (went_well handed) (moment s old) (moment it.heard it.begun) (moment it.told_due it.due) (omega arith)
       (begins now s it.heard old it.begun polled it.begins) (tells_due it.heard it.told_due it.begun it.due handed it.tells)
 
   -- and to its end, in which no epoch ends
-  turns : (now : ℕ) (s t : S) (old new : Match S P E L) (polled : _) (handed : Result ℕ HeldFault)
-      → Turns seen goes stays now s t old new polled handed None → Passed (went_well handed) (moment s old) (moment t new)
-  turns now s t old new polled handed it =
+  turns : (now : ℕ) (s t : S) (old new : Match S P E L) (polled : _) (handed : Result ℕ HeldFault) (why : Option SeamRefusal)
+      → Turns seen goes stays now s t old new polled handed None why → Passed (went_well handed) (moment s old) (moment t new)
+  turns now s t old new polled handed why it =
       both (went_well handed) 0 (went_well handed) (moment s old) (moment it.told_due it.due) (moment t new) (omega arith)
-      (due now s t old new polled handed None it)
+      (due now s t old new polled handed None why it)
       (both 0 0 0 (moment it.told_due it.due) (moment it.ends.told_all it.ends.closed) (moment t new) refl
       (closes it.ends.is_closed it.told_due it.ends.told_all it.due it.ends.closed it.ends.closes)
-      (stays_here it.ends.is_closed it.ends.told_all t it.ends.closed new it.ends.goes_over))
+      (stays_here it.ends.is_closed it.ends.told_all t it.ends.closed new why it.ends.goes_over))
 
   abbrev both_at : Both S P E L → Moment
   both_at b = moment b.session b.it
@@ -289,10 +291,10 @@ module _ {S P E L : Type 0} (step past : Step) (seen : S → Seen) (past_seen : 
   call_passes : (call : Call L) (old new : Both S P E L) → ends call ≡ false → Makes E step past seen past_seen goes stays call old new
       → Passed (cond (is_turn call) 1 0) (both_at old) (both_at new)
   call_passes (Receives bytes now said) old new on it = one Other (both_at old) (both_at new) it.1
-  call_passes (TakesTurn now polled handed None) old new on it =
-      subst (λ (n : ℕ). Passed n (both_at old) (both_at new)) (counts_so now polled handed None)
-      (turns now old.session new.session old.it new.it polled handed it)
-  call_passes (TakesTurn now polled handed (Some last)) old new on it = absurd (false≢true (sym on))
+  call_passes (TakesTurn now polled handed None why) old new on it =
+      subst (λ (n : ℕ). Passed n (both_at old) (both_at new)) (counts_so now polled handed None why)
+      (turns now old.session new.session old.it new.it polled handed why it)
+  call_passes (TakesTurn now polled handed (Some last) why) old new on it = absurd (false≢true (sym on))
   call_passes (GivesNext said) old new on it =
       let out = goes_out past_seen (seen old.session) (seen new.session) old.it new.it said it in
       others old.session new.session old.it new.it (λ entry there. subst (λ (log : List Entry). Contains log entry) (sym out.0) there) out.1
@@ -305,10 +307,10 @@ module _ {S P E L : Type 0} (step past : Step) (seen : S → Seen) (past_seen : 
   abbrev MakesIt : Call L → (old new : Both S P E L) → Type 0
   MakesIt call old new = Makes E step past seen past_seen goes stays call old new
 
-  told_where_closed : (w : RemoteWord) (is_closed : Bool) (s t after : S) (old mid new : Match S P E L) (last : L)
-      → Closes seen s t old mid is_closed → GoesOver goes stays t after mid new is_closed (Some last) → IsThere w (moment s old)
+  told_where_closed : (w : RemoteWord) (is_closed : Bool) (s t after : S) (old mid new : Match S P E L) (last : L) (why : Option SeamRefusal)
+      → Closes seen s t old mid is_closed → GoesOver goes stays t after mid new is_closed (Some last) why → IsThere w (moment s old)
       → WasTold (seen t) w
-  told_where_closed w true s t after old mid new last it over there = go (done_keep p.deeds (moment s old) (moment t mid) p.done w there)
+  told_where_closed w true s t after old mid new last why it over there = go (done_keep p.deeds (moment s old) (moment t mid) p.done w there)
     where
       p : Passed 0 (moment s old) (moment t mid)
       p = tells_all s t old mid it.1
@@ -319,18 +321,18 @@ module _ {S P E L : Type 0} (step past : Step) (seen : S → Seen) (past_seen : 
       go : IsThere w (moment t mid) → WasTold (seen t) w
       go (inl is_told) = is_told
       go (inr waits) = absurd (empty (subst (λ (ws : List RemoteWord). Contains ws w) it.1.1 waits))
-  told_where_closed w false s t after old mid new last it over there = absurd (none_of over.2)
+  told_where_closed w false s t after old mid new last why it over there = absurd (none_of over.2)
     where
       none_of : Some last ≡ None → ⊥
       none_of e = cc
 
   told_at_end : (w : RemoteWord) (call : Call L) (old next : Both S P E L) (it : MakesIt call old next) (later : Seen) → ends call ≡ true
       → IsThere w (both_at old) → WasTold (after_call E step past seen past_seen goes stays call old next it later) w
-  told_at_end w (TakesTurn now polled handed (Some last)) old next it later ended there =
-      let p = due now old.session next.session old.it next.it polled handed (Some last) it in
-      told_where_closed w it.ends.is_closed it.told_due it.ends.told_all next.session it.due it.ends.closed next.it last it.ends.closes
+  told_at_end w (TakesTurn now polled handed (Some last) why) old next it later ended there =
+      let p = due now old.session next.session old.it next.it polled handed (Some last) why it in
+      told_where_closed w it.ends.is_closed it.told_due it.ends.told_all next.session it.due it.ends.closed next.it last why it.ends.closes
       it.ends.goes_over (done_keep p.deeds (both_at old) (moment it.told_due it.due) p.done w there)
-  told_at_end w (TakesTurn now polled handed None) old next it later ended there = absurd (false≢true ended)
+  told_at_end w (TakesTurn now polled handed None why) old next it later ended there = absurd (false≢true ended)
   told_at_end w (Receives bytes now said) old next it later ended there = absurd (false≢true ended)
   told_at_end w (GivesNext said) old next it later ended there = absurd (false≢true ended)
   told_at_end w (PutsMark player mark said) old next it later ended there = absurd (false≢true ended)
@@ -340,8 +342,8 @@ module _ {S P E L : Type 0} (step past : Step) (seen : S → Seen) (past_seen : 
   -- in any other call it goes on
   goes_on : (call : Call L) (old next : Both S P E L) (it : MakesIt call old next) (later : Seen) → ends call ≡ false
       → after_call E step past seen past_seen goes stays call old next it later ≡ later
-  goes_on (TakesTurn now polled handed (Some last)) old next it later on = absurd (false≢true (sym on))
-  goes_on (TakesTurn now polled handed None) old next it later on = refl
+  goes_on (TakesTurn now polled handed (Some last) why) old next it later on = absurd (false≢true (sym on))
+  goes_on (TakesTurn now polled handed None why) old next it later on = refl
   goes_on (Receives bytes now said) old next it later on = refl
   goes_on (GivesNext said) old next it later on = refl
   goes_on (PutsMark player mark said) old next it later on = refl

@@ -6,3 +6,4 @@ pub mod Judged
 pub mod Later
 pub mod Through
 pub mod InTime
+pub mod Leads

@@ -5,6 +5,7 @@ use Rattle.roll_frame.specs.declared.entry.Entry.{Entry}
 use Rattle.roll_relay.specs.Waits.{Waits, WasTold}
 use Rattle.roll_relay.specs.declared.fault.HeldFault.{HeldFault}
 use Rattle.roll_relay.specs.declared.held.TheConstants.{TURN_LIMIT}
+use Rattle.roll_chain.specs.declared.seam_refusal.SeamRefusal.{SeamRefusal}
 use Rattle.roll_inputs.specs.declared.remote_word.RemoteWord.{RemoteWord}
 use Rattle.roll_peer.specs.declared.refusal.PeerRefusal.{PeerRefusal}
 use Rattle.roll_session.specs.Seen.{Seen, Step}
@@ -26,7 +27,7 @@ pub record Both (S P E L : Type 0) : Type 0 where
 -- session, which does nothing to what waits
 pub data Call (L : Type 0) : Type 0 where
   Receives : (bytes : List ℕ) (now : ℕ) → Result Unit Unheard → Call L
-  TakesTurn : (now : ℕ) (polled : Result (Result Unit PeerRefusal) HeldFault) (handed : Result ℕ HeldFault) (last : Option L) → Call L
+  TakesTurn : (now : ℕ) (polled : Result (Result Unit PeerRefusal) HeldFault) (handed : Result ℕ HeldFault) (last : Option L) (why : Option SeamRefusal) → Call L
   GivesNext : Option (ℕ × List ℕ) → Call L
   PutsMark : (player : ℕ) (mark : Mark) → Result ℕ Unmarked → Call L
   HandsOver : (count : ℕ) → Result Unit HeldFault → Call L
@@ -35,12 +36,12 @@ pub data Call (L : Type 0) : Type 0 where
 module _ {L : Type 0} where
   -- a turn in which it went well what is told once it is due
   abbrev pub is_turn : Call L → Bool
-  is_turn (TakesTurn now polled (Ok count) last) = true
+  is_turn (TakesTurn now polled (Ok count) last why) = true
   is_turn call = false
 
   -- an epoch ends in it
   abbrev pub ends : Call L → Bool
-  ends (TakesTurn now polled handed last) = is_some last
+  ends (TakesTurn now polled handed last why) = is_some last
   ends call = false
 
 module _ {S P L : Type 0} (E : Type 0) (step past : Step) (seen : S → Seen) (past_seen : P → Seen) (goes : Goes S P L) (stays : Stays S P)
@@ -50,7 +51,7 @@ module _ {S P L : Type 0} (E : Type 0) (step past : Step) (seen : S → Seen) (p
     Makes (Receives bytes now said) old new =
         Hears step past_seen past bytes now (seen old.session) (seen new.session) old.it new.it said
         × Waits (seen old.session) (seen new.session) old.it.held new.it.held
-    Makes (TakesTurn now polled handed last) old new = Turns seen goes stays now old.session new.session old.it new.it polled handed last
+    Makes (TakesTurn now polled handed last why) old new = Turns seen goes stays now old.session new.session old.it new.it polled handed last why
     Makes (GivesNext said) old new = GoesOut past_seen (seen old.session) (seen new.session) old.it new.it said
     Makes (PutsMark player mark said) old new = Marks seen player mark old.session new.session old.it new.it said
     Makes (HandsOver count said) old new = TellsFirst seen count old.session new.session old.it new.it said
@@ -64,7 +65,7 @@ module _ {S P L : Type 0} (E : Type 0) (step past : Step) (seen : S → Seen) (p
 
     -- the session of an epoch, once a call is made of it, and what comes then: as it was told all that waited, if the epoch ends in the call
     abbrev pub after_call : (call : Call L) → (old next : Both S P E L) → Makes call old next → (later : Seen) → Seen
-    after_call (TakesTurn now polled handed (Some last)) old next turns later = seen turns.ends.told_all
+    after_call (TakesTurn now polled handed (Some last) why) old next turns later = seen turns.ends.told_all
     after_call call old next makes later = later
 
     -- the session of the epoch in which these calls begin: as it is after them, or as it was where the epoch ends in them

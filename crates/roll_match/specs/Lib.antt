@@ -4,6 +4,7 @@ pub mod GoingOut
 pub mod Deeds
 pub mod Turning
 pub mod Telling
+pub mod Pacing
 pub mod InTime
 pub mod Epochs
 pub mod OneMatch

@@ -11,6 +11,7 @@ use Rattle.roll_relay.specs.Waits.{Waits}
 use Rattle.roll_relay.specs.declared.fault.HeldFault.{HeldFault}
 use Rattle.roll_chain.specs.GoingOnHere.{IsWhyNotGone as IsWhyNotOnward}
 use Rattle.roll_chain.specs.declared.onward_refusal.OnwardRefusal.{OnwardRefusal}
+use Rattle.roll_chain.specs.declared.onward_refusal.OnwardRefusal.TheVariants.{NotOver, Session as NotStarted, Network as NotOpened}
 use Rattle.roll_peer.specs.Peered.{Peered}
 use Rattle.roll_peer.specs.Receiving.{moment_of}
 use Rattle.roll_peer.specs.declared.refusal.PeerRefusal.{PeerRefusal}
@@ -18,6 +19,7 @@ use Rattle.roll_requests.specs.Asked.{Asked}
 use Rattle.roll_chain.specs.Epochs.{judged_in, shared_peer, turned_in, HasNotGoneOn}
 use Rattle.roll_chain.specs.declared.epochs.Epochs.{Epochs}
 use Rattle.roll_chain.specs.declared.seam_refusal.SeamRefusal.{SeamRefusal}
+use Rattle.roll_chain.specs.declared.seam_refusal.SeamRefusal.TheVariants.{JobsOut, Session, Network}
 use Rattle.roll_session.specs.Gameless.{Bare}
 use Rattle.roll_session.specs.Seen.{Seen, Step}
 use Rattle.roll_match.specs.declared.one.Match.{Match}
@@ -28,33 +30,41 @@ use Rattle.roll_match.specs.declared.one.Match.{Match}
 abbrev pub Goes : (S P L : Type 0) → Type 1
 Goes S P L = (old new : Epochs P) → (peer next : Peered) → (relay carrying : Carrying) → (session after : S) → L → Type 0
 
--- and of one that hasn't: its epoch isn't over, or the next one doesn't open
+-- and of one that hasn't: its epoch isn't over, or the next one doesn't open, and why
 abbrev pub Stays : (S P : Type 0) → Type 1
-Stays S P = (old : Epochs P) → Peered → S → Type 0
+Stays S P = (old : Epochs P) → Peered → S → Option SeamRefusal → Type 0
 
 -- so it is of a session that has its game
-abbrev pub StaysHere : {N : Type 0} → Step → Epochs (Bare N) → Peered → Seen → Type 0
-StaysHere step old peer session = (why : OnwardRefusal) × IsWhyNotOnward step old.chain peer session why
+abbrev pub StaysHere : {N : Type 0} → Step → Epochs (Bare N) → Peered → Seen → Option SeamRefusal → Type 0
+StaysHere step old peer session None = IsWhyNotOnward step old.chain peer session NotOver
+StaysHere step old peer session (Some JobsOut) = ⊥
+StaysHere step old peer session (Some (Session why)) = IsWhyNotOnward step old.chain peer session (NotStarted why)
+StaysHere step old peer session (Some (Network why)) = IsWhyNotOnward step old.chain peer session (NotOpened why)
+
+abbrev pub why_over : OnwardRefusal → Option SeamRefusal
+why_over NotOver = None
+why_over (NotStarted why) = Some (Session why)
+why_over (NotOpened why) = Some (Network why)
 
 -- and of one whose game is elsewhere
-abbrev pub StaysElsewhere : Epochs (Bare ℕ) → Peered → Asked → Type 0
-StaysElsewhere old peer session =
-    ((e : Ending) → IsOver session.seen old.chain peer e → ⊥) ⊎ ((why : SeamRefusal) × HasNotGoneOn old peer session why)
+abbrev pub StaysElsewhere : Epochs (Bare ℕ) → Peered → Asked → Option SeamRefusal → Type 0
+StaysElsewhere old peer session None = (e : Ending) → IsOver session.seen old.chain peer e → ⊥
+StaysElsewhere old peer session (Some why) = HasNotGoneOn old peer session why
 
 -- either what the next session needs isn't there, or it is, and stays, and marks were judged
-abbrev pub IsWhyHere : {S P E : Type 0} → Stays S P → Epochs P → (peer next : Peered) → S → (engine left : Option E) → Type 0
-IsWhyHere stays old peer next session engine left =
-    ((engine ≡ None) × (left ≡ None) × (next ≡ peer))
-    ⊎ ((is_some engine ≡ true) × (is_some left ≡ true) × (next ≡ judged_in old peer) × stays old (judged_in old peer) session)
+abbrev pub IsWhyHere : {S P E : Type 0} → Stays S P → Epochs P → (peer next : Peered) → S → (engine left : Option E) → Option SeamRefusal → Type 0
+IsWhyHere stays old peer next session engine left why =
+    ((engine ≡ None) × (left ≡ None) × (next ≡ peer) × (why ≡ None))
+    ⊎ ((is_some engine ≡ true) × (is_some left ≡ true) × (next ≡ judged_in old peer) × stays old (judged_in old peer) session why)
 
 module _ {S P E L : Type 0} where
   -- the next epoch has begun; or nothing is changed of session, epochs and what is carried
   abbrev pub GoesOnOrNot : Goes S P L → Stays S P → (old new : Epochs P) → (peer next : Peered) → (relay carrying : Carrying) → (session after : S)
-      → (engine left : Option E) → Option L → Type 0
-  GoesOnOrNot goes stays old new peer next relay carrying session after engine left None =
-      (new ≡ old) × (carrying ≡ relay) × (after ≡ session) × IsWhyHere stays old peer next session engine left
-  GoesOnOrNot goes stays old new peer next relay carrying session after engine left (Some last) =
-      (is_some engine ≡ true) × (left ≡ None) × goes old new (judged_in old peer) next relay carrying session after last
+      → (engine left : Option E) → Option L → Option SeamRefusal → Type 0
+  GoesOnOrNot goes stays old new peer next relay carrying session after engine left None why =
+      (new ≡ old) × (carrying ≡ relay) × (after ≡ session) × IsWhyHere stays old peer next session engine left why
+  GoesOnOrNot goes stays old new peer next relay carrying session after engine left (Some last) why =
+      (is_some engine ≡ true) × (left ≡ None) × (why ≡ None) × goes old new (judged_in old peer) next relay carrying session after last
 
   -- ---- a turn
 
@@ -114,27 +124,27 @@ module _ {S P E L : Type 0} where
       × (((e : Ending) → IsOver (seen before) old.epochs.chain old.peer e → ⊥) ⊎ ((why : HeldFault) × IsHeldFault (seen before) old.held.words.items why))
 
   -- and then the next epoch begins, if it can
-  abbrev pub GoesOver : Goes S P L → Stays S P → (before after : S) → (old new : Match S P E L) → (is_closed : Bool) → Option L → Type 0
-  GoesOver goes stays before after old new true last =
-      GoesOnOrNot goes stays old.epochs new.epochs old.peer new.peer old.relay new.relay before after old.engine new.engine last
+  abbrev pub GoesOver : Goes S P L → Stays S P → (before after : S) → (old new : Match S P E L) → (is_closed : Bool) → Option L → Option SeamRefusal → Type 0
+  GoesOver goes stays before after old new true last why =
+      GoesOnOrNot goes stays old.epochs new.epochs old.peer new.peer old.relay new.relay before after old.engine new.engine last why
       × (new ≡ record old { epochs = new.epochs; peer = new.peer; relay = new.relay; engine = new.engine })
-  GoesOver goes stays before after old new false last = (after ≡ before) × (new ≡ old) × (last ≡ None)
+  GoesOver goes stays before after old new false last why = (after ≡ before) × (new ≡ old) × (last ≡ None) × (why ≡ None)
 
   pub record Ends (seen : S → Seen) (goes : Goes S P L) (stays : Stays S P) (before after : S) (old new : Match S P E L) (last : Option L)
-      : Type 0 where
+      (why : Option SeamRefusal) : Type 0 where
     pub is_closed : Bool
     pub closed : Match S P E L
     pub told_all : S
     pub closes : Closes seen before told_all old closed is_closed
-    pub goes_over : GoesOver goes stays told_all after closed new is_closed last
+    pub goes_over : GoesOver goes stays told_all after closed new is_closed last why
 
   -- a turn: it begins, what is due is told, and the epoch ends if it is over
   pub record Turns (seen : S → Seen) (goes : Goes S P L) (stays : Stays S P) (now : ℕ) (before after : S) (old new : Match S P E L)
-      (polled : Result (Result Unit PeerRefusal) HeldFault) (handed : Result ℕ HeldFault) (last : Option L) : Type 0 where
+      (polled : Result (Result Unit PeerRefusal) HeldFault) (handed : Result ℕ HeldFault) (last : Option L) (why : Option SeamRefusal) : Type 0 where
     pub begun : Match S P E L
     pub due : Match S P E L
     pub heard : S
     pub told_due : S
     pub begins : Begins seen now before heard old begun polled
     pub tells : TellsDue seen heard told_due begun due handed
-    pub ends : Ends seen goes stays told_due after due new last
+    pub ends : Ends seen goes stays told_due after due new last why

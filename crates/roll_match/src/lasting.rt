@@ -1,9 +1,9 @@
 //! Sessions beside which a match goes on in epochs.
-ghost use Rattle.std.specs.Prelude.{◌≡◌, IfOk, OnErr};
-ghost use Rattle.roll_match.specs.Turning.{GoesOnOrNot};
+ghost use Rattle.std.specs.Prelude.{◌≡◌, IfErr, IfOk, OnErr, Option};
+ghost use Rattle.roll_match.specs.Turning.{why_over, GoesOnOrNot};
 ghost use Rattle.roll_chain.specs.Epochs.{judged_in};
 
-use roll_chain::{Epochs, OnwardFault};
+use roll_chain::{Epochs, OnwardFault, OnwardRefusal, SeamRefusal};
 use roll_game::Game;
 use roll_peer::Peer;
 use roll_relay::Relay;
@@ -16,6 +16,7 @@ pub trait Lasting: Settling {
     ghost use Rattle.roll_carry.specs.Carrying.{Carrying};
     ghost use Rattle.roll_peer.specs.Peered.{Peered};
     ghost use Rattle.roll_chain.specs.declared.epochs.Epochs.{Epochs};
+    ghost use Rattle.roll_chain.specs.declared.seam_refusal.SeamRefusal.{SeamRefusal};
 
     /// What it is in the epoch before: a session without its game.
     type Past: Networked + Drop;
@@ -31,13 +32,13 @@ pub trait Lasting: Settling {
 
     /// The epoch isn't over, or why the next one doesn't begin.
     ghost has_not_gone_on: { (old : Epochs Self.Past) → (peer : Peered) → (session : Self)
-        → Type 0 };
+        → Option SeamRefusal → Type 0 };
 
     /// Goes on in the next epoch, if this one is over. Marks are judged first.
     ///
     /// # Errors
     ///
-    /// If it isn't over, or the next one doesn't open: the engine. Nothing else changed then.
+    /// If it isn't over, or the next one doesn't open: the engine, and why, if it is over. Nothing else changed then.
     fn go_on(
         &mut self,
         alloc: Global,
@@ -45,11 +46,11 @@ pub trait Lasting: Settling {
         peer: &mut Peer,
         relay: &mut Relay,
         engine: Self::Engine,
-    ) -> Result<Self::Last, Self::Engine>
+    ) -> Result<Self::Last, (Self::Engine, Option<SeamRefusal>)>
         ensures gone { IfOk result (λ last. has_gone_on epochs.old epochs.new
             (judged_in epochs.old peer.old) peer.new relay.old relay.new self.old self.new last) }
-        ensures why { OnErr result
-            (has_not_gone_on epochs.old (judged_in epochs.old peer.old) self.old) }
+        ensures why { IfErr result
+            (λ it. has_not_gone_on epochs.old (judged_in epochs.old peer.old) self.old it.1) }
         ensures epochs { OnErr result (epochs.new ≡ epochs.old) }
         ensures peer { OnErr result (peer.new ≡ judged_in epochs.old peer.old) }
         ensures relay { OnErr result (relay.new ≡ relay.old) }
@@ -69,7 +70,7 @@ impl<G: Game + Drop> Lasting for Session<G> {
     ghost has_gone_on = { λ old new peer next relay carrying session after last.
         HasGoneOn G.step old new peer next relay carrying session after × (G.call_counts last ≡ session.counts) };
 
-    ghost has_not_gone_on = { λ old peer session. StaysHere G.step old peer session };
+    ghost has_not_gone_on = { λ old peer session why. StaysHere G.step old peer session why };
 
     fn go_on(
         &mut self,
@@ -78,10 +79,10 @@ impl<G: Game + Drop> Lasting for Session<G> {
         peer: &mut Peer,
         relay: &mut Relay,
         engine: G,
-    ) -> Result<G, G> {
+    ) -> Result<G, (G, Option<SeamRefusal>)> {
         match roll_chain::go_on(alloc, epochs, engine, peer, relay, self) {
             Ok(engine) => Ok(engine),
-            Err(OnwardFault { game, .. }) => Err(game),
+            Err(OnwardFault { game, why }) => Err((game, why_over(why))),
         }
     }
 }
@@ -99,7 +100,7 @@ impl Lasting for Elsewhere {
     ghost has_gone_on = { λ old new peer next relay carrying session after last.
         HasGoneOn old new peer next relay carrying session after last };
 
-    ghost has_not_gone_on = { λ old peer session. StaysElsewhere old peer session };
+    ghost has_not_gone_on = { λ old peer session why. StaysElsewhere old peer session why };
 
     fn go_on(
         &mut self,
@@ -108,12 +109,23 @@ impl Lasting for Elsewhere {
         peer: &mut Peer,
         relay: &mut Relay,
         engine: (),
-    ) -> Result<Closing, ()> {
+    ) -> Result<Closing, ((), Option<SeamRefusal>)> {
         match epochs.go_on(alloc, peer, relay, self) {
             Ok(Some(closing)) => Ok(closing),
-            Ok(None) => Err(engine),
-            Err(_) => Err(engine),
+            Ok(None) => Err((engine, None)),
+            Err(why) => Err((engine, Some(why))),
         }
+    }
+}
+
+/// Why a match that is over doesn't go on.
+fn why_over(why: OnwardRefusal) -> Option<SeamRefusal>
+    ensures { result ≡ why_over why }
+{
+    match why {
+        OnwardRefusal::NotOver => None,
+        OnwardRefusal::Session(why) => Some(SeamRefusal::Session(why)),
+        OnwardRefusal::Network(why) => Some(SeamRefusal::Network(why)),
     }
 }
 
@@ -125,18 +137,18 @@ pub(crate) fn go_on_with<S: Lasting>(
     peer: &mut Peer,
     relay: &mut Relay,
     engine: &mut Option<S::Engine>,
-) -> Option<S::Last>
+) -> (Option<S::Last>, Option<SeamRefusal>)
     ensures { GoesOnOrNot S.has_gone_on S.has_not_gone_on epochs.old epochs.new peer.old peer.new
-        relay.old relay.new session.old session.new engine.old engine.new result }
+        relay.old relay.new session.old session.new engine.old engine.new result.0 result.1 }
 {
     match engine.take() {
         Some(given) => match session.go_on(alloc, epochs, peer, relay, given) {
-            Ok(last) => Some(last),
-            Err(given) => {
+            Ok(last) => (Some(last), None),
+            Err((given, why)) => {
                 *engine = Some(given);
-                None
+                (None, why)
             }
         },
-        None => None,
+        None => (None, None),
     }
 }

@@ -11,6 +11,7 @@ mod lasting;
 mod laws;
 mod one;
 mod opening;
+mod pacing;
 mod showing;
 mod telling;
 mod turning;

@@ -1,5 +1,6 @@
 //! A match begins.
 ghost use Rattle.std.specs.Prelude.{◌≡◌, ◌≤◌, [], IfErr, IfOk};
+ghost use Rattle.roll_chain.specs.Chains.{settings_of};
 ghost use Rattle.roll_relay.specs.declared.held.TheConstants.{TURN_LIMIT};
 ghost use Rattle.roll_match.specs.Opening.{IsOpened, IsOpenedIn, IsWhyClosed};
 ghost use Rattle.roll_peer.specs.Peered.{IsWhyNot};
@@ -8,16 +9,15 @@ use crate::going_out::PLACES;
 use crate::lasting::Lasting;
 use crate::one::Match;
 use roll_chain::{Chain, Epochs};
-use roll_peer::{MatchSettings, OpenRefusal, Peer};
+use roll_peer::{OpenRefusal, Peer};
 use roll_relay::{Held, Relay};
 use std::alloc::Global;
 
 impl<S: Lasting> Match<S> {
     /// Opens a match beside a session that has just started.
     ///
-    /// A match that goes on in epochs has the settings of its chain, `chain.settings()`, and its session the threshold and this machine's
-    /// delays of `chain.terms()`. Machines that own no player in the epoch are gone from the start. A match that doesn't go on has
-    /// settings that take no marks: its only epoch never ends.
+    /// The chain says with which settings, and whether the match goes on in epochs. If it does, the session has the threshold and this
+    /// machine's delays of `chain.terms()`, and machines that own no player in the epoch are gone from the start.
     ///
     /// `held_turns` is for how many turns, 0 to 8, an input of another machine waits at most before the session gets it. Meanwhile
     /// another thread can run its frames ahead. 0: the session gets each input as it comes.
@@ -28,15 +28,14 @@ impl<S: Lasting> Match<S> {
     pub fn open(
         alloc: Global,
         session: &S,
-        settings: MatchSettings,
         chain: Chain,
         held_turns: u8,
     ) -> Result<Match<S>, OpenRefusal>
         requires { held_turns ≤ TURN_LIMIT }
-        ensures opened { IfOk result (IsOpened (S.seen session.now) settings chain held_turns) }
-        ensures refused { IfErr result (IsWhyClosed (S.seen session.now) settings) }
+        ensures opened { IfOk result (IsOpened (S.seen session.now) chain held_turns) }
+        ensures refused { IfErr result (IsWhyClosed (S.seen session.now) chain) }
     {
-        let peer = open_peer(alloc, session, settings, &chain)?;
+        let peer = open_peer(alloc, session, &chain)?;
         match Relay::open(alloc, &peer) {
             Ok(relay) => Ok(Match {
                 peer,
@@ -54,18 +53,13 @@ impl<S: Lasting> Match<S> {
 }
 
 /// The network of the epoch in which a match opens here. If it goes on in epochs, nobody sits where no player is owned.
-fn open_peer<S: Lasting>(
-    alloc: Global,
-    session: &S,
-    settings: MatchSettings,
-    chain: &Chain,
-) -> Result<Peer, OpenRefusal>
-    ensures opened { IfOk result (IsOpenedIn (S.seen session.now) settings chain.now) }
-    ensures refused { IfErr result (IsWhyNot (S.seen session.now) settings) }
+fn open_peer<S: Lasting>(alloc: Global, session: &S, chain: &Chain) -> Result<Peer, OpenRefusal>
+    ensures opened { IfOk result (IsOpenedIn (S.seen session.now) chain.now) }
+    ensures refused { IfErr result (IsWhyNot (S.seen session.now) (settings_of chain.now)) }
 {
-    match Peer::open(alloc, session, settings) {
+    match Peer::open(alloc, session, chain.settings()) {
         Ok(mut peer) => {
-            if settings.takes_marks {
+            if chain.lasts() {
                 chain.leave_out(&mut peer);
             }
             Ok(peer)

@@ -25,6 +25,13 @@ impl<S: Lasting> Match<S> {
         self.epochs.chain.terms()
     }
 
+    /// Whether the match goes on in epochs. If it doesn't, its only epoch never ends, and of how that opened its owners alone are read.
+    pub fn lasts(&self) -> bool
+        ensures { result ≡ self.now.epochs.chain.base.takes_marks }
+    {
+        self.epochs.chain.lasts()
+    }
+
     /// Whether another machine, from 0, is in this epoch and was in the one before. In the first epoch none was.
     pub fn has_stayed(&self, machine: u8) -> bool
         ensures { result ≡ has_stayed self.now.epochs.chain machine }

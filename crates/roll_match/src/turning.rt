@@ -4,6 +4,7 @@ ghost use Rattle.roll_match.specs.Turning.{Begins, Closes, Ends, GoesOver, Tells
 
 use crate::lasting::{Lasting, go_on_with};
 use crate::one::Match;
+use roll_chain::SeamRefusal;
 use roll_peer::PeerRefusal;
 use roll_relay::HeldFault;
 use std::alloc::Global;
@@ -20,6 +21,8 @@ pub struct Turn<L> {
     /// If the epoch was over, and the next one has begun: what its end leaves to the program, which it does first of all. The session
     /// has begun anew, and stands at the frame up to which it ran what the players of this machine had given past the end.
     pub last: Option<L>,
+    /// Why the next epoch doesn't begin, though this one is over. The next turn tries it again.
+    pub stays: Option<SeamRefusal>,
 }
 
 impl<S: Lasting> Match<S> {
@@ -31,15 +34,16 @@ impl<S: Lasting> Match<S> {
     /// ([`Match::give_engine`]) and there is memory. Events tell what happened.
     pub fn turn(&mut self, alloc: Global, session: &mut S, now: u32) -> Turn<S::Last>
         ensures { Turns S.seen S.has_gone_on S.has_not_gone_on now session.old session.new self.old
-            self.new result.polled result.handed result.last }
+            self.new result.polled result.handed result.last result.stays }
     {
         let polled = self.begin(session, now);
         let handed = self.tell_due(session);
-        let last = self.end(alloc, session);
+        let (last, stays) = self.end(alloc, session);
         Turn {
             polled,
             handed,
             last,
+            stays,
         }
     }
 
@@ -67,14 +71,14 @@ impl<S: Lasting> Match<S> {
     }
 
     /// The epoch ends, if it is over.
-    fn end(&mut self, alloc: Global, session: &mut S) -> Option<S::Last>
+    fn end(&mut self, alloc: Global, session: &mut S) -> (Option<S::Last>, Option<SeamRefusal>)
         ensures { Ends S.seen S.has_gone_on S.has_not_gone_on session.old session.new self.old
-            self.new result }
+            self.new result.0 result.1 }
     {
         if self.close(session) {
             self.go_over(alloc, session)
         } else {
-            None
+            (None, None)
         }
     }
 
@@ -104,9 +108,9 @@ impl<S: Lasting> Match<S> {
     }
 
     /// The next epoch begins, if it can.
-    fn go_over(&mut self, alloc: Global, session: &mut S) -> Option<S::Last>
+    fn go_over(&mut self, alloc: Global, session: &mut S) -> (Option<S::Last>, Option<SeamRefusal>)
         ensures { GoesOver S.has_gone_on S.has_not_gone_on session.old session.new self.old self.new
-            true result }
+            true result.0 result.1 }
     {
         go_on_with(
             alloc,

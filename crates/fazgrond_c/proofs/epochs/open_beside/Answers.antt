@@ -4,7 +4,8 @@ use Rattle.std.proofs.lemmas.Int.{to_z-of_z}
 use Rattle.roll_frame.specs.declared.settings.Settings.{Settings}
 use Rattle.roll_peer.specs.Peered.{Peered}
 use Rattle.roll_relay.specs.Relaying.{opened_beside}
-use Rattle.fazgrond_c.specs.Lasting.{chain_in, is_played, opening_of, IsLasting, IsOpenedWithout}
+use Rattle.roll_chain.specs.Chains.{settings_of}
+use Rattle.fazgrond_c.specs.Lasting.{chain_in, is_played, IsLasting, IsOpenedWithout}
 use Rattle.fazgrond_c.proofs.Openings.{not_opened}
 use Rattle.fazgrond_c.proofs.epochs.open_beside.Goals as goal
 
@@ -24,7 +25,7 @@ returns-in_default-open c =
 pub returns-in-Err : goal.returns-in-Err
 returns-in-Err c =
     let fits : FitsSigned w32 c.code_beside.result = search rules in
-    let failed : c.code_beside.result ≡ pos 0 → ⊥ = λ e. not_opened (opening_of (chain_in c.in-Some-Some.base c.in-Some-Some.terms c.args.given.now.comers c.args.live.now.session.seen)) c.in-Err.why
+    let failed : c.code_beside.result ≡ pos 0 → ⊥ = λ e. not_opened (settings_of (chain_in c.in-Some-Some.base c.in-Some-Some.terms c.args.given.now.comers c.args.live.now.session.seen)) c.in-Err.why
     (sym c.code_beside.ensures ∙ e) in
     rw to_z-of_z
     (record {
