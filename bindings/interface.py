@@ -102,10 +102,12 @@ class Call:
     parameters: list
     is_inline: bool  # its code stands in the header, and not in the library
     gives: list = field(default_factory=list)  # if it makes a struct: what it gives to each member
+    points: bool = False  # what it answers is a pointer to that, which is only read
 
     def in_c(self):
         told = ", ".join(it.in_c() for it in self.parameters) or "void"
-        return [f"{'static inline ' if self.is_inline else ''}{type_in_c(self.answer)} fazgrond_{self.name}({told});"]
+        answer = f"const {type_in_c(self.answer)} *" if self.points else f"{type_in_c(self.answer)} "
+        return [f"{'static inline ' if self.is_inline else ''}{answer}fazgrond_{self.name}({told});"]
 
     def code_in_c(self):
         """What it gives to members, in lines by their names."""
@@ -122,7 +124,7 @@ CONSTANT = re.compile(r"constant (\w+) (.+)")
 ENUM = re.compile(r"enum (\w+)(?: of numbers\.txt: ([\w ]+))?")
 HANDLE = re.compile(r"handle (\w+): (\w+), (\w+)")
 STRUCT = re.compile(r"struct (\w+)")
-CALL = re.compile(r"(call|inline) (\w+) (\w+)\((.*)\)")
+CALL = re.compile(r"(call|inline) (?:(in) )?(\w+) (\w+)\((.*)\)")
 ITEM = re.compile(r"    ([A-Z_]+) (\d+)")
 MEMBER = re.compile(r"    (\w+) (\w+)(?:\[(\w+)\])?")
 GIVEN = re.compile(r"    (\w+) (?:players <= (\d+) \? (\w+) : )?([\w.]+)")
@@ -159,8 +161,8 @@ def thing_of(line):
     if found := STRUCT.fullmatch(line):
         return Struct(found[1])
     if found := CALL.fullmatch(line):
-        told = [parameter_of(it) for it in re.split(r",(?![^\[]*\])", found[4]) if it.strip()]
-        return Call(found[2], found[3], told, found[1] == "inline")
+        told = [parameter_of(it) for it in re.split(r",(?![^\[]*\])", found[5]) if it.strip()]
+        return Call(found[3], found[4], told, found[1] == "inline", points=bool(found[2]))
     raise Fault("can't be read")
 
 
@@ -267,6 +269,8 @@ def check_call(call, types):
         room, filled = plain.get(it.room), plain.get(it.filled)
         if it.kind not in types or call.answer not in types:
             raise Fault(f"{call.name}: there is no type {it.kind}, or no {call.answer}")
+        if call.points and not call.is_inline:
+            raise Fault(f"{call.name}: what the library answers is no pointer")
         if it.room and (not it.how or not room or room.kind != "size" or room.how):
             raise Fault(f"{call.name}: {it.name} has no length {it.room}")
         if it.filled and it.filled != "answer" and (not filled or filled.how != "out"):
@@ -282,7 +286,7 @@ PIECES = re.compile(
       |\#define\ FAZGROND_(?P<constant>\w+)\ (?P<value>.+)\n
       |typedef\ struct\ fazgrond_(?P<struct>\w+)\ \{(?P<members>[^}]*)\}\ fazgrond_(?P=struct);
       |enum\ \{(?P<items>[^}]*)\};
-      |(?P<inline>static\ inline\ )?(?P<answer>\w+)\ fazgrond_(?P<call>\w+)\((?P<parameters>[^)]*)\)
+      |(?P<inline>static\ inline\ )?(?P<points>const\ )?(?P<answer>\w+)\ (?(points)\*)fazgrond_(?P<call>\w+)\((?P<parameters>[^)]*)\)
         (?:;|\ \{\n(?P<code>(?s:.*?))\n\})""", re.X)
 SET = re.compile(r"^ +\w+\.(\w+)(\[at\])? = (?:players <= (\d+) \? (\w+) : )?(.+);$", re.M)
 KINDS = {name: kind for kind, name in TYPES.items() if kind != "answer"} | {"void *": "pointer"}
@@ -323,7 +327,7 @@ def thing_in(found):
     if found["items"]:
         return Enum("", re.findall(r"FAZGROND_(\w+)\s*=\s*(\d+)", found["items"]))
     return Call(kind_of(found["answer"]), found["call"], parameters_of(found["parameters"]), bool(found["inline"]),
-                given_in(found["code"] or ""))
+                given_in(found["code"] or ""), bool(found["points"]))
 
 
 def given_in(code):

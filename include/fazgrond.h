@@ -4,12 +4,13 @@
  * a job (fazgrond_guess) leaves a list of requests, which the game takes by fazgrond_take_requests and carries out in order:
  * load a state, save one, advance by a frame, free one. docs/C.md shows a whole game.
  *
- * A match over a network has two handles side by side: the session, which plays, and a peer, which is the network. The game
- * gives its own players' words to the session, the datagrams that it hears to the peer, and lends the session to the peer's calls.
+ * A session can play a match over a network: fazgrond_match_open opens both in one handle. In a turn the game gives it the datagrams
+ * that came and the inputs of its own players, carries out the requests, and sends the datagrams that it makes. The older way has two
+ * handles side by side, a session and a peer: it goes in 0.4.0.
  *
  * Players are numbered from 1, frames, slots and machines from 0. An int32_t that comes back is FAZGROND_OK or says why the call
- * was refused. A refused call writes nothing through its pointers, except that fazgrond_claim says how much room it needs. No
- * pointer may be null, and a buffer must have the room that is said of it.
+ * was refused. A refused call writes nothing through its pointers, except that fazgrond_claim says how much room it needs,
+ * and fazgrond_match_open which setting doesn't fit. No pointer may be null, and a buffer must have the room that is said of it.
  */
 #ifndef FAZGROND_H
 #define FAZGROND_H
@@ -22,11 +23,11 @@ extern "C" {
 #endif
 
 /* The version of this header: major << 16 | minor << 8 | patch. docs/VERSIONS.md says what raises which of them. */
-#define FAZGROND_VERSION 0x000201
+#define FAZGROND_VERSION 0x000300
 
 /* The version of the library that the program runs with. While the major number is 0, a library fits a header with the same major
- * and minor number. If a library knows another size of fazgrond_settings, fazgrond_match or fazgrond_epoch than the header, it opens
- * nothing and answers FAZGROND_OTHER_VERSION. */
+ * and minor number. If a library knows another size of fazgrond_settings, fazgrond_match_settings, fazgrond_match or
+ * fazgrond_epoch than the header, it opens nothing and answers FAZGROND_OTHER_VERSION. */
 uint32_t fazgrond_version(void);
 
 /* What an answer or the code of an event means, in an English sentence for a log: as much of it as `out` has room for, without a
@@ -200,7 +201,11 @@ enum {
     FAZGROND_LONG_DELAY = 328,              /* a mark: a delay is over 8 */
     FAZGROND_OTHERS_DELAY = 329,            /* a mark: it gives a delay to a player that isn't this machine's */
     FAZGROND_WRONG_TICKET = 330,            /* a mark: the ticket isn't of the match's `comers`, and the name in it */
-    FAZGROND_JOBS_OUT = 331                 /* the epoch is over, and jobs are out: graft or forget them first */
+    FAZGROND_JOBS_OUT = 331,                /* the epoch is over, and jobs are out: graft or forget them first */
+    FAZGROND_INPUTS_TOO_LONG = 332,         /* the match: the inputs of all players have over 32 bytes together, each rounded up
+                                             * to 4 */
+    FAZGROND_OUT_OF_RANGE = 333,            /* the match: a setting is out of its range */
+    FAZGROND_INPUT_LENGTH = 334             /* a turn: the inputs have another length than the match's */
 };
 
 /* Opens a session. Before the first request the game has its opening state as the current one and in slot 0. If the handle is
@@ -307,7 +312,418 @@ int32_t fazgrond_frames_ahead(fazgrond_session *session, uint32_t *frames);
  * checks. It is written if `out` has room for it; `length` is how long it is, also if the answer is FAZGROND_TOO_SHORT. */
 int32_t fazgrond_claim(fazgrond_session *session, uint8_t *out, size_t room, size_t *length);
 
-/* ---- A match over a network.
+/* ---- A match over a network, which a session plays. The section after this one, of peers, is the older way to play one: it goes in
+ * 0.4.0.
+ *
+ * fazgrond_match_open opens a session and the match that it plays in one handle, and fazgrond_close closes both. The match has no
+ * socket, no clock, no thread and no game: it takes and makes datagrams, and leaves requests as any session does.
+ *
+ * The main loop of the game, some 60 times a second:
+ *   fazgrond_match_receive for each datagram that came;
+ *   fazgrond_match_turn with the inputs of this machine's players;
+ *   fazgrond_take_requests until it gives none: carry them out. If the turn says `has_gone_on`, begin again from the top at once;
+ *   fazgrond_match_note with a digest of the settled state;
+ *   fazgrond_match_next until it answers FAZGROND_NOTHING: send each datagram to the machine that it names;
+ *   fazgrond_match_event until it answers FAZGROND_NOTHING;
+ *   draw the game, if the turn says `has_requests`, and sleep until `next_in` microseconds have passed since the turn began.
+ * It is the same for two machines and for eight, whether inputs are held back, lines break or players come and go: what the settings
+ * don't ask for does nothing.
+ *
+ * An input is `input_size` bytes. In the session it is a word for each 4 bytes, and the last word has zeros behind its end:
+ * fazgrond_input_of finds an input in a row. The settings' owners and delays, marks, and fazgrond_epoch_now count players. Everything
+ * else counts words, as in a session: rows and their `gone`, the log, guesses, fazgrond_match_waiting, `handed`, `words_queued` and an
+ * event's `player`. With inputs of 5 to 8 bytes player 2's are the words 3 and 4, and bit 2 of `gone` is its first one.
+ *
+ * The turn gives the session the inputs and advances it. A program that calls fazgrond_remote_input or fazgrond_disconnect_player of
+ * this session ends the match for this machine: from then on calls answer FAZGROND_OTHER_SESSION. All else works as in any session:
+ * fazgrond_synchronize_input, guesses and grafts, claims, limits of slots, the log.
+ *
+ * `now` is this machine's clock in milliseconds, from a moment of its own choice. It may wrap, and it may jump: time that goes back
+ * counts as none, and a leap forwards alone makes nobody silent. Give the same clock to all calls.
+ *
+ * All calls here answer FAZGROND_IS_CLOSED if the session plays no match that was opened so. */
+
+/* The owner of a player that doesn't exist. */
+#define FAZGROND_NO_PLAYER 255
+
+/* The owner of a player that nobody owns now, in a match that goes on in epochs: a machine that comes may get it. It is another thing
+ * than FAZGROND_NO_PLAYER: such a player is in no epoch of the match. */
+#define FAZGROND_NOBODY 254
+
+/* Of a mark: the player's delay stays as it is. */
+#define FAZGROND_AS_BEFORE 0xffffffff
+
+/* The most machines of a match. */
+#define FAZGROND_MACHINES 8
+
+/* The `silent_after` and `notify_after` with which a match begins, and the `silent_after` of a line in other languages. */
+#define FAZGROND_SILENT_AFTER 5000
+#define FAZGROND_NOTIFY_AFTER 750
+
+/* The most bytes of a datagram. */
+#define FAZGROND_DATAGRAM 1200
+
+/* The most words that wait beside the session. If one more comes, the session gets all of them. */
+#define FAZGROND_HELD_WORDS 64
+
+/* How a session and its match open. All machines give the same `machines`, `input_size`, `digest`, `opening`, `comers`, `epoch`, `base`,
+ * `owners`, `masks`, `profile`, `threshold`, `limit` and `lasts`; with `lasts` the same `delays` too; and each two machines the same
+ * number for each other. FAZGROND_MISMATCH tells what of them is compared: have `digest` depend on the others. Begin with
+ * fazgrond_match_settings_for, so that members which a later version adds have a value too.
+ *
+ * The draw: 64 bits of the system's source of random bits (getrandom, BCryptGenRandom or the like), drawn anew for each opening, and
+ * never 0. Nothing has to be agreed on for it: machines tell each other theirs, and by them a datagram of an earlier opening of the same
+ * match isn't heard in this one. If a draw comes again, anybody who recorded the earlier opening can play it into this one. */
+typedef struct fazgrond_match_settings {
+    uint32_t size;                       /* sizeof(fazgrond_match_settings) */
+    uint32_t me;                         /* which machine this is, from 0 */
+    uint32_t machines;                   /* how many there are, 2 to 8. With `lasts` the owners say it, and it is 255 at most */
+    uint32_t input_size;                 /* how many bytes an input of a player has, 1 to 16. All players' inputs have 32 together at
+                                          * most, each rounded up to 4 */
+    uint64_t numbers[FAZGROND_MACHINES]; /* with each machine a number that only these two know, 64 random bits, and never 0; that of
+                                          * `me` is not read. The same in all places: the match's number */
+    uint64_t draw;                       /* drawn for this opening: not 0 */
+    uint64_t digest;                     /* of all else that has to be alike at all machines, but for the opening state */
+    uint64_t opening;                    /* of the opening state: compared before the match begins. 0 if you have none */
+    uint64_t comers;                     /* with `lasts`, which machines may come: see fazgrond_ticket. 0: any that a mark lets in */
+    uint64_t epoch;                      /* with `lasts`, in which epoch this machine opens, and how many frames of the match came */
+    uint64_t base;                       /* before it. A match begins with 0 and 0. A machine that comes later gives what the others'
+                                          * fazgrond_match_epoch says, with its owners, delays and threshold */
+    uint32_t owners[FAZGROND_PLAYERS];   /* the machine of each player, player 1 first; FAZGROND_NO_PLAYER behind the last one; with
+                                          * `lasts` FAZGROND_NOBODY if nobody owns it now */
+    uint32_t delays[FAZGROND_PLAYERS];   /* by how many frames each player's inputs count later, 0 to 8. Without `lasts` those of this
+                                          * machine's players alone are read */
+    uint32_t masks[FAZGROND_PLAYERS];    /* for each word of a row, and not for each player: which of its bits are predicted as held.
+                                          * All by 0xffffffff; with 0 the prediction is always 0 */
+    uint32_t profile;                    /* FAZGROND_GGPO, or FAZGROND_WIDE for over 4 words in a row or a threshold over 8 */
+    uint32_t threshold;                  /* how many frames the session may run ahead of the confirmed inputs */
+    uint32_t limit;                      /* the last frame of a session, at most 1048576. With `lasts` each epoch has so many */
+    uint32_t log;                        /* the most accepted calls, at most 16777216, of each epoch too */
+    uint32_t silent_after;               /* milliseconds after which a machine is gone that answers nothing, unless
+                                          * FAZGROND_CUT_OFF is told. 0: it never is, so the match waits for it until you
+                                          * disconnect it, and FAZGROND_MISSING isn't told */
+    uint32_t notify_after;               /* milliseconds after which FAZGROND_INTERRUPTED tells of a machine of which nothing comes,
+                                          * and FAZGROND_STALLED of one that holds this one up; 0: neither is told */
+    uint32_t stalled_after;              /* milliseconds after which a machine is gone that answers, and holds this one up since it
+                                          * gives no inputs, unless it hasn't begun; `silent_after` later if it takes none, or if
+                                          * another may keep it. 0: it never is, and the match may stand for good */
+    uint32_t held_turns;                 /* for how many turns at most the others' inputs wait beside the session, 1 to 8, while
+                                          * another thread runs their frames: see fazgrond_match_guess. 0: the session gets them as
+                                          * they come. Each machine has its own */
+    uint32_t carries;                    /* not 0: where the line between two machines breaks, a third one that both hear hands their
+                                          * datagrams on, so neither is gone for it. For 3 machines or more that
+                                          * were opened so */
+    uint32_t lasts;                      /* not 0: the match goes on in epochs. Marks end them, and change delays, the threshold and
+                                          * the machines: see fazgrond_match_mark. The frames of each epoch begin at 0, so such a
+                                          * match doesn't end at a last frame */
+    uint32_t frame_time;                 /* how many microseconds a frame lasts, 1 to 1000000 */
+} fazgrond_match_settings;
+
+/* The settings of machine `me` in a match of so many machines: with GGPO's limits, inputs of 4 bytes, no delays, every bit predicted as
+ * held, 60 frames a second, one epoch, and nothing held back or carried. No player has an owner, and there are no numbers and no draw
+ * yet: set these. Over 4 words in a row, where an input takes a word for each 4 bytes, or a threshold over 8, want
+ * `profile = FAZGROND_WIDE`. */
+static inline fazgrond_match_settings fazgrond_match_settings_for(uint32_t machines, uint32_t me) {
+    fazgrond_match_settings settings;
+    int at;
+    settings.size = (uint32_t)sizeof settings;
+    settings.me = me;
+    settings.machines = machines;
+    settings.input_size = 4;
+    for (at = 0; at < FAZGROND_MACHINES; at++)
+        settings.numbers[at] = 0;
+    settings.draw = 0;
+    settings.digest = 0;
+    settings.opening = 0;
+    settings.comers = 0;
+    settings.epoch = 0;
+    settings.base = 0;
+    for (at = 0; at < FAZGROND_PLAYERS; at++) {
+        settings.owners[at] = FAZGROND_NO_PLAYER;
+        settings.delays[at] = 0;
+        settings.masks[at] = 0xffffffff;
+    }
+    settings.profile = FAZGROND_GGPO;
+    settings.threshold = 8;
+    settings.limit = 1048576;
+    settings.log = 16777216;
+    settings.silent_after = FAZGROND_SILENT_AFTER;
+    settings.notify_after = FAZGROND_NOTIFY_AFTER;
+    settings.stalled_after = 0;
+    settings.held_turns = 0;
+    settings.carries = 0;
+    settings.lasts = 0;
+    settings.frame_time = 16667;
+    return settings;
+}
+
+/* A match that has one number, which all its machines know: each of them could speak in the name of another. */
+static inline void fazgrond_match_one_number(fazgrond_match_settings *settings, uint64_t number) {
+    int at;
+    for (at = 0; at < FAZGROND_MACHINES; at++)
+        settings->numbers[at] = number;
+}
+
+/* Which setting is out of its range: `me`, `machines`, an owner, a delay or the threshold is over 255, `input_size` isn't 1 to 16,
+ * `profile` is no profile, `held_turns` is over 8, or `frame_time` isn't 1 to 1000000. */
+enum {
+    FAZGROND_SETTING_ME = 1, FAZGROND_SETTING_MACHINES = 2, FAZGROND_SETTING_INPUT_SIZE = 3, FAZGROND_SETTING_OWNER = 4,
+    FAZGROND_SETTING_DELAY = 5, FAZGROND_SETTING_PROFILE = 6, FAZGROND_SETTING_THRESHOLD = 7, FAZGROND_SETTING_HELD_TURNS = 8,
+    FAZGROND_SETTING_FRAME_TIME = 9
+};
+
+/* A setting that doesn't fit. */
+typedef struct fazgrond_unfit {
+    uint32_t setting; /* FAZGROND_SETTING_ME and the like; 0: none of them */
+    uint32_t player;  /* of an owner or a delay: whose it is, counted from 1; else 0 */
+    uint32_t value;   /* what was given for it. With FAZGROND_INPUTS_TOO_LONG how many bytes the inputs of all players have together */
+} fazgrond_unfit;
+
+/* What a turn did. */
+typedef struct fazgrond_turn {
+    uint32_t is_running;   /* whether the match has begun. It never becomes 0 again */
+    uint32_t has_played;   /* whether the session played a frame with the inputs of this turn */
+    uint32_t has_gone_on;  /* whether an epoch ended, and the next one has begun */
+    uint32_t has_requests; /* whether there are requests: carry them out, and the game has something new to draw */
+    uint32_t frame;        /* the session's frame, in the epoch that it plays now */
+    uint32_t handed;       /* how many words the session got that had waited for `held_turns` */
+    int32_t failed;        /* what couldn't be done, and is tried again in the next turn: see fazgrond_match_turn; else 0 */
+    int32_t waits_for;     /* why no frame was played with inputs that were given: FAZGROND_PREDICTION_THRESHOLD, or another answer of
+                            * fazgrond_advance_frame or fazgrond_add_local_input; FAZGROND_INPUT_LENGTH if they have another length. 0 if
+                            * one was played, or none was due: before the match begins, and where an epoch ended */
+    uint32_t next_in;      /* in how many microseconds after this turn began the next one should begin: `frame_time`, up to a quarter
+                            * longer while this machine is ahead of others, or 0 after an epoch's end. With this there is no need to
+                            * wait for FAZGROND_TIME_SYNC too */
+} fazgrond_turn;
+
+/* SYNCHRONIZING: `machine` was heard; `count` of `total` steps are done. SYNCHRONIZED: it and this one have heard each other.
+ * RUNNING: a play of each has come, and the match begins. DISCONNECTED: `player` has left.
+ * TIME_SYNC: this machine is ahead: give no word for `frames_ahead` turns.
+ * INTERRUPTED: `machine` is silent, and gone in `disconnect_in` milliseconds; that is 0 if `silent_after` is. RESUMED: it was
+ * heard again.
+ * LEFT: `machine` is gone for good. So is one that a mark has let in, and that isn't there twice `silent_after` after the epoch
+ * began (10,000 milliseconds if that is 0), and any that hasn't played on `stalled_after` later, if that isn't 0. If it said bye, `bye` is
+ * why (FAZGROND_BYE_LEAVES and the like), else 0.
+ * DESYNC: `machine` has another state at the settled frame `frame`. It is the first such frame, as far as both have noted digests; or
+ * the least that was found in 2 seconds. Told once of each machine in an epoch.
+ * MISMATCH: `machine` means another match: `field` is 1 if it has another number of machines, 2 if other owners, 3 if another
+ * digest or other `comers`, 4 if inputs of another number of words, 5 if its match alone goes on in epochs, or this one's, 6 if another
+ * opening state. It may come in the middle of a match too.
+ * DROPPED: the match is over here. Another machine regards this one as gone, or this one was cut off for too long. Told once in an
+ * epoch.
+ * RESTARTED: `machine` was opened anew. It can't come back into this match: its old opening is silent from now on, and gone by
+ * that, and its new one waits until you open a match anew too. Told once of each machine.
+ * STALLED: `machine` is heard, and holds this one up: it gives no words, or takes none, or stays in the epoch before. If it is to be
+ * gone for that, it is in `disconnect_in` milliseconds, else that is 0. Told once, until it goes on.
+ * REFUSED: what `machine` sealed was refused, or a word of it was: its program is broken, or it lies. Told as RESTARTED; the stats
+ * count how often.
+ * MISSING: `silent_after` has passed since the match was opened here, and `machine` isn't there yet. Told once. It is waited for, until
+ * you disconnect it.
+ * STRANGERS: so it is, and `count` hellos have come that aren't of this match: they are sealed by another number, are of another
+ * version, or name this machine's place or one that there isn't. Told once.
+ * CUT_OFF: of three machines or more this one hears too few, and so regards none of them as gone. The match is over here in
+ * `disconnect_in` milliseconds, as DROPPED tells then, unless it hears more of them again. Told whenever that begins.
+ * TWO_MARKS: `machine` knows another mark of `player` than this machine. The player's machine told it in two ways, or one of those that
+ * tell of it lies: the epochs of the two may end in two ways. Told once of each machine.
+ * bindings/numbers writes the list. */
+enum {
+    FAZGROND_SYNCHRONIZING = 1001, FAZGROND_SYNCHRONIZED = 1002, FAZGROND_RUNNING = 1003, FAZGROND_DISCONNECTED = 1004,
+    FAZGROND_TIME_SYNC = 1005, FAZGROND_INTERRUPTED = 1006, FAZGROND_RESUMED = 1007, FAZGROND_LEFT = 1101, FAZGROND_DESYNC = 1102,
+    FAZGROND_MISMATCH = 1103, FAZGROND_DROPPED = 1104, FAZGROND_RESTARTED = 1105, FAZGROND_STALLED = 1106,
+    FAZGROND_REFUSED = 1107, FAZGROND_MISSING = 1108, FAZGROND_CUT_OFF = 1109, FAZGROND_STRANGERS = 1110,
+    FAZGROND_TWO_MARKS = 1111
+};
+
+/* What an event doesn't say is 0. */
+typedef struct fazgrond_event {
+    uint32_t code;
+    uint32_t machine;
+    uint32_t player;
+    uint32_t count;
+    uint32_t total;
+    uint32_t frames_ahead;
+    uint32_t disconnect_in;
+    uint32_t frame;
+    uint32_t field;
+    uint32_t bye;
+} fazgrond_event;
+
+/* Why a machine says bye: it leaves, it plays another state than the others, or it can't go on. From FAZGROND_BYE_OWN to 255 they are the
+ * program's own. The library tells them, and does nothing else by them. */
+enum { FAZGROND_BYE_LEAVES = 1, FAZGROND_BYE_DESYNC = 2, FAZGROND_BYE_ERROR = 3, FAZGROND_BYE_OWN = 16 };
+
+/* What was counted and measured of the datagrams between this machine and another. */
+typedef struct fazgrond_stats {
+    uint32_t is_measured;        /* whether the round trip was measured */
+    uint32_t round_trip;         /* in milliseconds */
+    uint32_t sent;
+    uint32_t received;
+    uint32_t lost;               /* or late */
+    uint32_t words_queued;       /* words that it hasn't said that it has, at most 140 of each player; 0 if nothing is sent to it */
+    int32_t frames_behind;       /* by how many frames this machine is behind the other: negative if it is ahead */
+    int32_t their_frames_behind; /* and the other, as it says, behind this one */
+    uint32_t refused;            /* how many datagrams that it sealed were refused, or had words that were */
+    uint32_t dropped;            /* how many of its datagrams called this machine gone */
+    uint32_t restarted;          /* whether it was opened anew in the middle of the match */
+} fazgrond_stats;
+
+/* How the epoch opened that the session plays now: the same at all machines, but for `stayed`. */
+typedef struct fazgrond_epoch_now {
+    uint64_t epoch;                     /* its number: 0 is the first one, and any other has a number of 64 bits of its own */
+    uint64_t base;                      /* how many frames of the match came before it. With the session's frame it makes the match's */
+    uint32_t machines;                  /* how many there are: the highest number that a machine in it has, and one */
+    uint32_t threshold;                 /* as in the settings */
+    uint32_t owners[FAZGROND_PLAYERS];  /* of each player, player 1 first, as in the settings */
+    uint32_t delays[FAZGROND_PLAYERS];  /* of each player up to the last one. What is behind it has no meaning */
+    uint32_t stayed[FAZGROND_MACHINES]; /* of each machine whether it is in this epoch and was in the one before: 0 as well if it has
+                                         * come in with this epoch, and for all in the epoch with which this machine opened */
+} fazgrond_epoch_now;
+
+/* What is to be otherwise in the next epoch. Begin with fazgrond_mark_for. */
+typedef struct fazgrond_mark {
+    uint32_t size;                     /* sizeof(fazgrond_mark) */
+    uint32_t threshold;                /* the new one, 1 to 15; 0: as before */
+    uint64_t ticket;                   /* of the machine that comes: see fazgrond_ticket. Of no meaning if none comes */
+    uint32_t comes[FAZGROND_PLAYERS];  /* 1 for each player that the machine that comes is to own, player 1 first, else 0. If all are
+                                        * 0, no machine comes. Where a player isn't nobody's, the lowest one that is takes its place.
+                                        * For fazgrond_peer_mark, of an input of several words its first one is named */
+    uint32_t delays[FAZGROND_PLAYERS]; /* each player's new delay, 0 to 8, or FAZGROND_AS_BEFORE */
+} fazgrond_mark;
+
+/* A mark that changes nothing: the frames begin anew, and that is all. */
+static inline fazgrond_mark fazgrond_mark_for(void) {
+    fazgrond_mark mark;
+    int at;
+    mark.size = (uint32_t)sizeof mark;
+    mark.threshold = 0;
+    mark.ticket = 0;
+    for (at = 0; at < FAZGROND_PLAYERS; at++) {
+        mark.comes[at] = 0;
+        mark.delays[at] = FAZGROND_AS_BEFORE;
+    }
+    return mark;
+}
+
+/* The ticket by which a machine with this name, a number of your choice, may come to a match with these `comers`: its lower half is the
+ * name, and nobody can make the upper one without `comers`. So let all machines of the match know that number, drawn at random and not
+ * 0, and nobody else. A machine that lies can let another in by it. With `comers` 0 any ticket is good. */
+uint64_t fazgrond_ticket(uint64_t comers, uint32_t name);
+
+/* Opens a session, and the match that it plays. Before the first request the game has its opening state as the current one and in slot
+ * 0. If the handle is open, what it holds is closed once the new one is there; if the new one is refused, the old one stays.
+ * `why` is written in any case. It says which setting doesn't fit by FAZGROND_OUT_OF_RANGE and FAZGROND_INPUTS_TOO_LONG; by all other
+ * answers its members are 0.
+ * FAZGROND_PLAYER_OUT_OF_RANGE: there is no player, or there are more words in a row than the profile allows.
+ * FAZGROND_INVALID_REQUEST: `me` owns no player; a delay, the threshold, `limit` or `log` is out of the session's range; or the draw is 0.
+ * FAZGROND_INVALID_MACHINE: too few or too many machines, or `me` is none of them, though it owns a player.
+ * FAZGROND_INVALID_PLAYER: a player before the last one has no owner among the machines.
+ * FAZGROND_NO_NUMBER: the number with another machine is 0. With `lasts`, if nobody owns a player, also that with the lowest machine that
+ * isn't there.
+ * FAZGROND_OTHER_VERSION: the settings are of another version's header. */
+int32_t fazgrond_match_open(fazgrond_session *session, const fazgrond_match_settings *settings, fazgrond_unfit *why);
+
+/* Takes a datagram that came to the program's socket, from wherever and however often. The session gets the inputs in it, or they wait
+ * beside it. A refused datagram, by a code from 301 on, changes nothing but what is counted and told of its sender: the program can go
+ * on without a look at the answer. May be called before the session's requests are taken. */
+int32_t fazgrond_match_receive(fazgrond_session *session, const uint8_t *bytes, size_t length, uint32_t now);
+
+/* A turn: machines that were silent for too long are gone, the match begins once all machines are there, inputs that have waited long
+ * enough go to the session, and an epoch that is over ends. Then the session plays a frame, if the match has begun and no epoch ended
+ * in this turn. Leaves requests.
+ *
+ * `inputs` are those of this machine's players, one after another in the order of the players, `input_size` bytes each. They count for the
+ * session's frame and the delay. If an epoch gives this machine more or fewer players, the inputs are longer or shorter from then on:
+ * fazgrond_match_epoch says whose players they are. If the turn says `has_played`, these inputs count. Else give them, or newer ones, in
+ * the next turn; but where `waits_for` is FAZGROND_NO_MEMORY or FAZGROND_LOG_FULL the session may have taken them already, and of a frame
+ * the first ones that it took count. Where no frame is played, as with a `length` of 0, the session rolls back where that is due, so
+ * that the game shows what others have pressed.
+ *
+ * FAZGROND_PENDING: requests weren't all taken. By this and by FAZGROND_IS_CLOSED nothing has changed, and no turn was taken. Else the
+ * answer is FAZGROND_OK, and what couldn't be done in the turn stands in `failed`; the next turn tries it again:
+ * FAZGROND_LOG_FULL, FAZGROND_NO_MEMORY: there is no room for inputs that wait, for a player who is to leave, or for the next epoch.
+ * FAZGROND_JOBS_OUT: the epoch is over, and jobs are out: graft or forget them all.
+ * FAZGROND_OTHER_SESSION: the session was told of other machines past the match, which is over for this machine.
+ * Others are those of fazgrond_match_open, for the next epoch; by FAZGROND_INVALID_REQUEST the others go on without this machine, since
+ * it has left for them. */
+int32_t fazgrond_match_turn(fazgrond_session *session, const uint8_t *inputs, size_t length, uint32_t now, fazgrond_turn *turn);
+
+/* The next datagram of this turn, in `out`, which has room for FAZGROND_DATAGRAM bytes, how long it is, and to which machine it goes.
+ * FAZGROND_NOTHING once all have gone out. FAZGROND_TOO_SHORT: there is less room, and nothing has changed. */
+int32_t fazgrond_match_next(fazgrond_session *session, uint8_t *machine, uint8_t *out, size_t room, size_t *length);
+
+/* What happened, the oldest first; FAZGROND_NOTHING if no event waits. The oldest is dropped if more than 64 wait.
+ * FAZGROND_DISCONNECTED tells of each word of an input. The number of a bye is lost if another machine's word of it comes first: then
+ * FAZGROND_LEFT says 0. */
+int32_t fazgrond_match_event(fazgrond_session *session, fazgrond_event *event);
+
+/* Notes the game's own digest of the session's settled state, by which the machines see that they play alike: fazgrond_settled_slot says
+ * where that state lies. Once in each turn, when the requests are carried out. */
+int32_t fazgrond_match_note(fazgrond_session *session, uint64_t digest);
+
+/* This machine leaves the match: from now on fazgrond_match_next gives datagrams that say bye, and why (FAZGROND_BYE_LEAVES and the
+ * like). Inputs that are given from now on go to nobody. Since datagrams get lost, make some more turns before you close the session. */
+int32_t fazgrond_match_leave(fazgrond_session *session, uint8_t why);
+
+/* Regards a machine as gone, for good. Its players leave the session at a later turn, once it is known which inputs of them the
+ * remaining machines have. FAZGROND_INVALID_MACHINE: there is no such machine. FAZGROND_OWN_MACHINE: it is this one. */
+int32_t fazgrond_match_disconnect(fazgrond_session *session, uint8_t machine);
+
+/* Puts a mark on the next input that a player of this machine gives, counted from 1: the frame for which that input counts is the last one
+ * of the epoch. All inputs that wait go to the session first. If another machine's mark ends the epoch before, this one is forgotten: see
+ * whether the next epoch is as you wanted it, and put the mark again if it isn't. Of each player the first mark of an epoch counts alone;
+ * if several count in one frame, that of the lowest player does.
+ * FAZGROND_NO_MARKS: the match doesn't go on in epochs.
+ * FAZGROND_INVALID_PLAYER: it is no player of this machine.
+ * FAZGROND_MARKED: it has a mark in this epoch already.
+ * FAZGROND_INVALID_REQUEST: a number of the mark is over 255, and a delay also no FAZGROND_AS_BEFORE.
+ * FAZGROND_GREAT_THRESHOLD, FAZGROND_LONG_DELAY, FAZGROND_OTHERS_DELAY, FAZGROND_WRONG_TICKET: all machines would find the mark void.
+ * FAZGROND_LOG_FULL, FAZGROND_NO_MEMORY: the session has no room for the inputs that wait.
+ * FAZGROND_OTHER_VERSION: the mark is of another version's header. */
+int32_t fazgrond_match_mark(fazgrond_session *session, uint8_t player, const fazgrond_mark *mark);
+
+/* What was counted and measured of a machine. FAZGROND_INVALID_MACHINE: there is no such machine. */
+int32_t fazgrond_match_stats(fazgrond_session *session, uint8_t machine, fazgrond_stats *stats);
+
+/* How the epoch opened that is played now. FAZGROND_NOTHING: the match doesn't go on in epochs. */
+int32_t fazgrond_match_epoch(fazgrond_session *session, fazgrond_epoch_now *epoch);
+
+/* If a frame of the game is dear, an input that comes late costs what it rolls back, on the thread that draws. With `held_turns` it
+ * needn't: the match keeps the others' inputs beside the session as they come. Meanwhile another thread runs the frames that they make, as
+ * a guess that is right (fazgrond_match_guess). Then they are handed over, and the rollback is a load.
+ *
+ * In each turn of the main loop: before fazgrond_match_turn graft the jobs that are done, and hand over the words that would make no
+ * frame run again (fazgrond_match_rerun), and all of them if fazgrond_match_is_pressed says 1. The turn hands over itself what has
+ * waited for `held_turns` of them. After the requests are carried out, make a guess with the words that still wait.
+ *
+ * The words that wait, in the order in which they came, as FAZGROND_REMOTE entries: fills `out`, which has room for so many, and says how
+ * many it wrote. 0 if the session plays no match. */
+size_t fazgrond_match_waiting(fazgrond_session *session, fazgrond_entry *out, size_t room);
+
+/* How many frames up to the current one the session would have to run again, if the first `count` words that wait were handed over, or
+ * all if there are fewer. FAZGROND_INVALID_REQUEST if they are none. */
+int32_t fazgrond_match_rerun(fazgrond_session *session, uint32_t count, uint32_t *frames);
+
+/* Whether the game would stand without the words that wait: `flag` is 1 if some wait, and once the session has come to its next frame, it
+ * would answer FAZGROND_PREDICTION_THRESHOLD to an input, unless it is given more; else 0. */
+int32_t fazgrond_match_is_pressed(fazgrond_session *session, uint32_t *flag);
+
+/* A guess with all words that wait, of several players too: leaves the requests of a job, as fazgrond_guess does, and all that is said
+ * there holds. FAZGROND_NOTHING if all frames up to `until` are kept already. FAZGROND_INVALID_REQUEST if no word waits, or `until` is
+ * more than 24 frames past the settled one. */
+int32_t fazgrond_match_guess(fazgrond_session *session, uint32_t until, uint32_t *job);
+
+/* Hands the first `count` words that wait over to the session, or all if there are fewer: the next turn that plays a frame rolls back for
+ * them. If it is refused, nothing is changed. */
+int32_t fazgrond_match_hand_over(fazgrond_session *session, uint32_t count);
+
+/* The `input_size` bytes of a player's input in a row. The player is counted from 0 here, as the places of a list. The bytes are as the
+ * player's machine gave them to fazgrond_match_turn, since words are little-endian on all platforms that the library is built for. If the
+ * player has left, they are 0, and bit `player * ((input_size + 3) / 4)` of `gone` is set. The pointer is into the row. */
+static inline const uint8_t *fazgrond_input_of(const fazgrond_row *row, uint32_t player, uint32_t input_size) {
+    return (const uint8_t *)&row->words[player * ((input_size + 3) / 4)];
+}
+
+/* ---- Peers: the older way to play a match over a network, which goes in 0.4.0.
  *
  * A peer is the network of a match at one machine: who has which words, who is gone, what to send. It has no socket, no clock and
  * no game: it makes and takes datagrams, and stands beside the session that plays. Each call that needs the session is lent it.
@@ -336,16 +752,6 @@ typedef struct fazgrond_peer {
     uint8_t full;
     void *at;
 } fazgrond_peer;
-
-/* The owner of a player whom there isn't. */
-#define FAZGROND_NO_PLAYER 255
-
-/* The most machines of a match. */
-#define FAZGROND_MACHINES 8
-
-/* The `silent_after` and `notify_after` with which a match begins, and the `silent_after` of a line in other languages. */
-#define FAZGROND_SILENT_AFTER 5000
-#define FAZGROND_NOTIFY_AFTER 750
 
 /* The players, limits and masks of the session are the same at each machine, and its local players are those that `me` owns; so
  * are `digest`, `opening`, `comers`, `machines`, `owners` and `words`, and the number of each two machines at both of them. Begin with
@@ -414,80 +820,6 @@ static inline void fazgrond_one_number(fazgrond_match *match, uint64_t number) {
     for (at = 0; at < FAZGROND_MACHINES; at++)
         match->numbers[at] = number;
 }
-
-/* SYNCHRONIZING: `machine` was heard; `count` of `total` steps are done. SYNCHRONIZED: it and this one have heard each other.
- * RUNNING: a play of each has come, and the match begins. DISCONNECTED: `player` has left.
- * TIME_SYNC: this machine is ahead: give no word for `frames_ahead` turns.
- * INTERRUPTED: `machine` is silent, and gone in `disconnect_in` milliseconds; that is 0 if `silent_after` is. RESUMED: it was
- * heard again.
- * LEFT: `machine` is gone for good. So is one that a mark has let in, and that isn't there twice `silent_after` after the seam
- * (10,000 milliseconds if that is 0), and any that hasn't played on `stalled_after` later, if that isn't 0. If it said bye, `bye` is
- * why (FAZGROND_BYE_LEAVES and the like), else 0.
- * DESYNC: `machine` has another state at the settled frame `frame`. It is the first such frame, as far as both have noted digests; or
- * the least that was found in 2 seconds. Told once of each machine in an epoch.
- * MISMATCH: `machine` means another match: `field` is 1 if it has another number of machines, 2 if other owners, 3 if another
- * digest or other `comers`, 4 if inputs of another number of words, 5 if its match alone goes on in epochs, or this one's, 6 if another
- * opening state. It may come in the middle of a match too.
- * DROPPED: the match is over here. Another machine regards this one as gone, or this one was cut off for too long. Told once in an
- * epoch.
- * RESTARTED: `machine` was opened anew. It can't come back into this match: its old opening is silent from now on, and gone by
- * that, and its new one waits until you open a match anew too. Told once of each machine.
- * STALLED: `machine` is heard, and holds this one up: it gives no words, or takes none, or stays in the epoch before. If it is to be
- * gone for that, it is in `disconnect_in` milliseconds, else that is 0. Told once, until it goes on.
- * REFUSED: what `machine` sealed was refused, or a word of it was: its program is broken, or it lies. Told as RESTARTED; the stats
- * count how often.
- * MISSING: `silent_after` has passed since this peer was opened, and `machine` isn't there yet. Told once. It is waited for, until
- * you disconnect it.
- * STRANGERS: so it is, and `count` hellos have come that aren't of this match: they are sealed by another number, are of another
- * version, or name this machine's place or one that there isn't. Told once.
- * CUT_OFF: of three machines or more this one hears too few, and so regards none of them as gone. The match is over here in
- * `disconnect_in` milliseconds, as DROPPED tells then, unless it hears more of them again. Told whenever that begins.
- * TWO_MARKS: `machine` knows another mark of `player` than this machine. The player's machine told it in two ways, or one of those that
- * tell of it lies: the epochs of the two may end in two ways. Told once of each machine.
- * bindings/numbers writes the list. */
-enum {
-    FAZGROND_SYNCHRONIZING = 1001, FAZGROND_SYNCHRONIZED = 1002, FAZGROND_RUNNING = 1003, FAZGROND_DISCONNECTED = 1004,
-    FAZGROND_TIME_SYNC = 1005, FAZGROND_INTERRUPTED = 1006, FAZGROND_RESUMED = 1007, FAZGROND_LEFT = 1101, FAZGROND_DESYNC = 1102,
-    FAZGROND_MISMATCH = 1103, FAZGROND_DROPPED = 1104, FAZGROND_RESTARTED = 1105, FAZGROND_STALLED = 1106,
-    FAZGROND_REFUSED = 1107, FAZGROND_MISSING = 1108, FAZGROND_CUT_OFF = 1109, FAZGROND_STRANGERS = 1110,
-    FAZGROND_TWO_MARKS = 1111
-};
-
-/* What an event doesn't say is 0. */
-typedef struct fazgrond_event {
-    uint32_t code;
-    uint32_t machine;
-    uint32_t player;
-    uint32_t count;
-    uint32_t total;
-    uint32_t frames_ahead;
-    uint32_t disconnect_in;
-    uint32_t frame;
-    uint32_t field;
-    uint32_t bye;
-} fazgrond_event;
-
-/* Why a machine says bye: it leaves, it plays another state than the others, or it can't go on. From FAZGROND_BYE_OWN to 255 they are the
- * program's own. The library tells them, and does nothing else by them. */
-enum { FAZGROND_BYE_LEAVES = 1, FAZGROND_BYE_DESYNC = 2, FAZGROND_BYE_ERROR = 3, FAZGROND_BYE_OWN = 16 };
-
-/* What was counted and measured of the datagrams between this machine and another. */
-typedef struct fazgrond_stats {
-    uint32_t is_measured;        /* whether the round trip was measured */
-    uint32_t round_trip;         /* in milliseconds */
-    uint32_t sent;
-    uint32_t received;
-    uint32_t lost;               /* or late */
-    uint32_t words_queued;       /* words that it hasn't said that it has, at most 140 of each player; 0 if nothing is sent to it */
-    int32_t frames_behind;       /* by how many frames this machine is behind the other: negative if it is ahead */
-    int32_t their_frames_behind; /* and the other, as it says, behind this one */
-    uint32_t refused;            /* how many datagrams that it sealed were refused, or had words that were */
-    uint32_t dropped;            /* how many of its datagrams called this machine gone */
-    uint32_t restarted;          /* whether it was opened anew in the middle of the match */
-} fazgrond_stats;
-
-/* The most bytes of a datagram. */
-#define FAZGROND_DATAGRAM 1200
 
 /* Opens a peer beside an open session, which stays the game's: close each of the two when you need it no more. Of the session
  * nothing changes. If the peer's handle is open, its peer is closed once the new one is there; if the new one is refused, the old
@@ -571,9 +903,6 @@ int32_t fazgrond_peer_stats(fazgrond_peer *peer, uint8_t machine, fazgrond_stats
  * words that wait, fazgrond_peer_receive, fazgrond_peer_poll and fazgrond_peer_send may answer FAZGROND_LOG_FULL or
  * FAZGROND_NO_MEMORY too: there is no room in the session for these words, and nothing is changed. */
 
-/* The most words that wait. If one more comes, all are handed over. */
-#define FAZGROND_HELD_WORDS 64
-
 /* The words that wait, in the order in which they came, as FAZGROND_REMOTE entries: fills `out`, which has room for so many, and
  * says how many it wrote. 0 if the peer is closed. */
 size_t fazgrond_peer_waiting(fazgrond_peer *peer, fazgrond_entry *out, size_t room);
@@ -625,13 +954,6 @@ int32_t fazgrond_peer_is_pressed(fazgrond_peer *peer, fazgrond_session *session,
  *   fazgrond_peer_event until there is none. For each other machine of the epoch (fazgrond_epoch_has) fazgrond_peer_send, and then
  *   fazgrond_peer_send_before. Then fazgrond_peer_send_more until there is nothing. */
 
-/* The owner of a player whom nobody owns now, and whom somebody who comes may get. It is another thing than FAZGROND_NO_PLAYER: such a
- * player is in no epoch of the match. */
-#define FAZGROND_NOBODY 254
-
-/* Of a mark: the player's delay stays as it is. */
-#define FAZGROND_AS_BEFORE 0xffffffff
-
 /* How an epoch opens: the same at all machines. Machines keep their numbers over all epochs, and a machine is in an epoch if it owns a
  * player there. All epochs of a match have the same players, and inputs of as many words. Begin with fazgrond_epoch_for. Who comes later
  * opens with what the others' fazgrond_peer_epoch says once its epoch has begun. */
@@ -646,17 +968,6 @@ typedef struct fazgrond_epoch {
                                         * FAZGROND_NO_PLAYER if there is none */
     uint32_t delays[FAZGROND_PLAYERS]; /* by how many frames each player's words count later, 0 to 8 */
 } fazgrond_epoch;
-
-/* What is to be otherwise in the next epoch. Begin with fazgrond_mark_for. */
-typedef struct fazgrond_mark {
-    uint32_t size;                     /* sizeof(fazgrond_mark) */
-    uint32_t threshold;                /* the new one, 1 to 15; 0: as before */
-    uint64_t ticket;                   /* of who comes: see fazgrond_ticket. Of no meaning if nobody comes */
-    uint32_t comes[FAZGROND_PLAYERS];  /* 1 for each player that whoever comes is to own, player 1 first, else 0. If all are 0,
-                                        * nobody comes. Of an input of several words the first one is named. Where a player isn't
-                                        * nobody's, the lowest one that is takes its place */
-    uint32_t delays[FAZGROND_PLAYERS]; /* each player's new delay, 0 to 8, or FAZGROND_AS_BEFORE */
-} fazgrond_mark;
 
 /* The first epoch of a match whose sessions have these settings: with its owners and the words of its inputs, and the settings'
  * threshold and delays. Settings have a delay for the machine's own players alone, and 0 for others. So if other machines have delays,
@@ -687,25 +998,6 @@ static inline uint32_t fazgrond_epoch_has(const fazgrond_epoch *epoch, uint32_t 
             return 1;
     return 0;
 }
-
-/* A mark that changes nothing: the frames begin anew, and that is all. */
-static inline fazgrond_mark fazgrond_mark_for(void) {
-    fazgrond_mark mark;
-    int at;
-    mark.size = (uint32_t)sizeof mark;
-    mark.threshold = 0;
-    mark.ticket = 0;
-    for (at = 0; at < FAZGROND_PLAYERS; at++) {
-        mark.comes[at] = 0;
-        mark.delays[at] = FAZGROND_AS_BEFORE;
-    }
-    return mark;
-}
-
-/* The ticket by which somebody with this name, a number of your choice, may come to a match with these `comers`: its lower half is the
- * name, and the upper one is had by those alone who know `comers`. So let all machines of the match know that number, drawn at random
- * and not 0, and nobody else. A machine that lies can let somebody in by it. With `comers` 0 any ticket is good. */
-uint64_t fazgrond_ticket(uint64_t comers, uint32_t name);
 
 /* Opens a peer whose match goes on in epochs, beginning with this one. It carries, as one of fazgrond_peer_open_carrying. All machines of
  * a match are opened so, or none. Of the match `owners`, `machines` and `words` aren't read, since the epoch says them, but they have to be

@@ -105,6 +105,9 @@ enum class [[nodiscard]] Code : std::int32_t {
     others_delay = FAZGROND_OTHERS_DELAY,
     wrong_ticket = FAZGROND_WRONG_TICKET,
     jobs_out = FAZGROND_JOBS_OUT,
+    inputs_too_long = FAZGROND_INPUTS_TOO_LONG,
+    out_of_range = FAZGROND_OUT_OF_RANGE,
+    input_length = FAZGROND_INPUT_LENGTH,
 };
 
 // The sentence for an answer.

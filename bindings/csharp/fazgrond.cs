@@ -7,16 +7,16 @@ public static unsafe class Fazgrond
 {
     const string Library = "fazgrond";    // fazgrond.dll, or libfazgrond.so on Linux
 
-    public const uint Version = 0x000201;
+    public const uint Version = 0x000300;
     public const int Players = 8;
     public const uint NoPlayer = 255;
+    public const uint Nobody = 254;
+    public const uint AsBefore = 0xffffffff;
     public const int Machines = 8;
     public const uint SilentAfter = 5000;
     public const uint NotifyAfter = 750;
     public const int Datagram = 1200;
     public const int HeldWords = 64;
-    public const uint Nobody = 254;
-    public const uint AsBefore = 0xffffffff;
     public const int GuessWords = 24;
     public const int Piece = 1024;
     public const int Asked = 16;
@@ -36,7 +36,10 @@ public static unsafe class Fazgrond
                      NoRows = 310, RowsMissing = 311, Outside = 312, OtherSession = 313, OtherKind = 314, OtherState = 315,
                      Barred = 316, NotNow = 317, PastTheEnd = 318, WrongLength = 319, TooLong = 320, NoMarks = 321,
                      Marked = 322, UnlikeDelays = 323, TwoOwners = 324, TooManyWords = 325, NoNumber = 326,
-                     GreatThreshold = 327, LongDelay = 328, OthersDelay = 329, WrongTicket = 330, JobsOut = 331;
+                     GreatThreshold = 327, LongDelay = 328, OthersDelay = 329, WrongTicket = 330, JobsOut = 331,
+                     InputsTooLong = 332, OutOfRange = 333, InputLength = 334;
+    public const uint SettingMe = 1, SettingMachines = 2, SettingInputSize = 3, SettingOwner = 4, SettingDelay = 5,
+                      SettingProfile = 6, SettingThreshold = 7, SettingHeldTurns = 8, SettingFrameTime = 9;
     public const uint Synchronizing = 1001, Synchronized = 1002, Running = 1003, Disconnected = 1004, TimeSync = 1005,
                       Interrupted = 1006, Resumed = 1007, Left = 1101, Desync = 1102, Mismatch = 1103, Dropped = 1104,
                       Restarted = 1105, Stalled = 1106, Refused = 1107, Missing = 1108, CutOff = 1109, Strangers = 1110,
@@ -99,29 +102,55 @@ public static unsafe class Fazgrond
     }
 
     [StructLayout(LayoutKind.Sequential)]
-    public struct Peer
-    {
-        public byte Full;
-        public IntPtr At;
-    }
-
-    [StructLayout(LayoutKind.Sequential)]
-    public struct Match
+    public struct MatchSettings
     {
         public uint Size;
+        public uint Me;
+        public uint Machines;
+        public uint InputSize;
         public fixed ulong Numbers[Fazgrond.Machines];
         public ulong Draw;
         public ulong Digest;
         public ulong Opening;
         public ulong Comers;
-        public uint Me;
-        public uint Machines;
+        public ulong Epoch;
+        public ulong Base;
         public fixed uint Owners[Fazgrond.Players];
+        public fixed uint Delays[Fazgrond.Players];
+        public fixed uint Masks[Fazgrond.Players];
+        public uint Profile;
+        public uint Threshold;
+        public uint Limit;
+        public uint Log;
         public uint SilentAfter;
         public uint NotifyAfter;
         public uint StalledAfter;
-        public uint Words;
         public uint HeldTurns;
+        public uint Carries;
+        public uint Lasts;
+        public uint FrameTime;
+    }
+
+    [StructLayout(LayoutKind.Sequential)]
+    public struct Unfit
+    {
+        public uint Setting;
+        public uint Player;
+        public uint Value;
+    }
+
+    [StructLayout(LayoutKind.Sequential)]
+    public struct Turn
+    {
+        public uint IsRunning;
+        public uint HasPlayed;
+        public uint HasGoneOn;
+        public uint HasRequests;
+        public uint Frame;
+        public uint Handed;
+        public int Failed;
+        public int WaitsFor;
+        public uint NextIn;
     }
 
     [StructLayout(LayoutKind.Sequential)]
@@ -156,16 +185,15 @@ public static unsafe class Fazgrond
     }
 
     [StructLayout(LayoutKind.Sequential)]
-    public struct Epoch
+    public struct EpochNow
     {
-        public uint Size;
-        public uint Words;
-        public uint Threshold;
-        public uint Machines;
-        public ulong Id;
+        public ulong Epoch;
         public ulong Base;
+        public uint Machines;
+        public uint Threshold;
         public fixed uint Owners[Fazgrond.Players];
         public fixed uint Delays[Fazgrond.Players];
+        public fixed uint Stayed[Fazgrond.Machines];
     }
 
     [StructLayout(LayoutKind.Sequential)]
@@ -175,6 +203,45 @@ public static unsafe class Fazgrond
         public uint Threshold;
         public ulong Ticket;
         public fixed uint Comes[Fazgrond.Players];
+        public fixed uint Delays[Fazgrond.Players];
+    }
+
+    [StructLayout(LayoutKind.Sequential)]
+    public struct Peer
+    {
+        public byte Full;
+        public IntPtr At;
+    }
+
+    [StructLayout(LayoutKind.Sequential)]
+    public struct Match
+    {
+        public uint Size;
+        public fixed ulong Numbers[Fazgrond.Machines];
+        public ulong Draw;
+        public ulong Digest;
+        public ulong Opening;
+        public ulong Comers;
+        public uint Me;
+        public uint Machines;
+        public fixed uint Owners[Fazgrond.Players];
+        public uint SilentAfter;
+        public uint NotifyAfter;
+        public uint StalledAfter;
+        public uint Words;
+        public uint HeldTurns;
+    }
+
+    [StructLayout(LayoutKind.Sequential)]
+    public struct Epoch
+    {
+        public uint Size;
+        public uint Words;
+        public uint Threshold;
+        public uint Machines;
+        public ulong Id;
+        public ulong Base;
+        public fixed uint Owners[Fazgrond.Players];
         public fixed uint Delays[Fazgrond.Players];
     }
 
@@ -306,6 +373,25 @@ public static unsafe class Fazgrond
     [DllImport(Library)] public static extern int fazgrond_note_advantages(Session* session, int local, int remote);
     [DllImport(Library)] public static extern int fazgrond_frames_ahead(Session* session, uint* frames);
     [DllImport(Library)] public static extern int fazgrond_claim(Session* session, byte* @out, UIntPtr room, UIntPtr* length);
+    [DllImport(Library)] public static extern ulong fazgrond_ticket(ulong comers, uint name);
+    [DllImport(Library)] public static extern int fazgrond_match_open(Session* session, MatchSettings* settings, Unfit* why);
+    [DllImport(Library)] public static extern int fazgrond_match_receive(Session* session, byte* bytes, UIntPtr length, uint now);
+    [DllImport(Library)] public static extern int fazgrond_match_turn(Session* session, byte* inputs, UIntPtr length, uint now,
+                                                                      Turn* turn);
+    [DllImport(Library)] public static extern int fazgrond_match_next(Session* session, byte* machine, byte* @out, UIntPtr room,
+                                                                      UIntPtr* length);
+    [DllImport(Library)] public static extern int fazgrond_match_event(Session* session, Event* @event);
+    [DllImport(Library)] public static extern int fazgrond_match_note(Session* session, ulong digest);
+    [DllImport(Library)] public static extern int fazgrond_match_leave(Session* session, byte why);
+    [DllImport(Library)] public static extern int fazgrond_match_disconnect(Session* session, byte machine);
+    [DllImport(Library)] public static extern int fazgrond_match_mark(Session* session, byte player, Mark* mark);
+    [DllImport(Library)] public static extern int fazgrond_match_stats(Session* session, byte machine, Stats* stats);
+    [DllImport(Library)] public static extern int fazgrond_match_epoch(Session* session, EpochNow* epoch);
+    [DllImport(Library)] public static extern UIntPtr fazgrond_match_waiting(Session* session, Entry* @out, UIntPtr room);
+    [DllImport(Library)] public static extern int fazgrond_match_rerun(Session* session, uint count, uint* frames);
+    [DllImport(Library)] public static extern int fazgrond_match_is_pressed(Session* session, uint* flag);
+    [DllImport(Library)] public static extern int fazgrond_match_guess(Session* session, uint until, uint* job);
+    [DllImport(Library)] public static extern int fazgrond_match_hand_over(Session* session, uint count);
     [DllImport(Library)] public static extern int fazgrond_peer_open(Peer* peer, Session* session, Match* match);
     [DllImport(Library)] public static extern int fazgrond_peer_open_carrying(Peer* peer, Session* session, Match* match);
     [DllImport(Library)] public static extern int fazgrond_peer_receive(Peer* peer, Session* session, byte* bytes,
@@ -328,7 +414,6 @@ public static unsafe class Fazgrond
     [DllImport(Library)] public static extern int fazgrond_peer_hand_over(Peer* peer, Session* session, uint count);
     [DllImport(Library)] public static extern int fazgrond_peer_hand_over_due(Peer* peer, Session* session, uint* handed);
     [DllImport(Library)] public static extern int fazgrond_peer_is_pressed(Peer* peer, Session* session, uint* flag);
-    [DllImport(Library)] public static extern ulong fazgrond_ticket(ulong comers, uint name);
     [DllImport(Library)] public static extern int fazgrond_peer_open_lasting(Peer* peer, Session* session, Match* match,
                                                                              Epoch* epoch);
     [DllImport(Library)] public static extern int fazgrond_peer_epoch(Peer* peer, Epoch* epoch);
@@ -397,6 +482,37 @@ public static unsafe class Fazgrond
         return made;
     }
 
+    public static MatchSettings fazgrond_match_settings_for(uint machines, uint me)
+    {
+        var made = new MatchSettings();
+        made.Size = (uint)sizeof(MatchSettings);
+        made.Me = me;
+        made.Machines = machines;
+        made.InputSize = 4u;
+        made.Profile = Ggpo;
+        made.Threshold = 8u;
+        made.Limit = 1048576u;
+        made.Log = 16777216u;
+        made.SilentAfter = SilentAfter;
+        made.NotifyAfter = NotifyAfter;
+        made.FrameTime = 16667u;
+        for (int at = 0; at < Players; at++)
+        {
+            made.Owners[at] = NoPlayer;
+            made.Masks[at] = 0xffffffff;
+        }
+        return made;
+    }
+
+    public static Mark fazgrond_mark_for()
+    {
+        var made = new Mark();
+        made.Size = (uint)sizeof(Mark);
+        for (int at = 0; at < Players; at++)
+            made.Delays[at] = AsBefore;
+        return made;
+    }
+
     public static Match fazgrond_match_for(uint machines, uint me)
     {
         var made = new Match();
@@ -426,19 +542,21 @@ public static unsafe class Fazgrond
         return made;
     }
 
-    public static Mark fazgrond_mark_for()
-    {
-        var made = new Mark();
-        made.Size = (uint)sizeof(Mark);
-        for (int at = 0; at < Players; at++)
-            made.Delays[at] = AsBefore;
-        return made;
-    }
-
     public static void fazgrond_one_number(Match* match, ulong number)
     {
         for (int at = 0; at < Machines; at++)
             match->Numbers[at] = number;
+    }
+
+    public static void fazgrond_match_one_number(MatchSettings* settings, ulong number)
+    {
+        for (int at = 0; at < Machines; at++)
+            settings->Numbers[at] = number;
+    }
+
+    public static byte* fazgrond_input_of(Row* row, uint player, uint input_size)
+    {
+        return (byte*)&row->Words[player * ((input_size + 3) / 4)];
     }
 
     public static uint fazgrond_epoch_has(Epoch* epoch, uint machine)

@@ -3,7 +3,7 @@ local ffi = require "ffi"
 
 if not pcall(ffi.typeof, "fazgrond_session") then -- (this may be loaded more than once)
     ffi.cdef [[
-static const int FAZGROND_VERSION = 0x000201;
+static const int FAZGROND_VERSION = 0x000300;
 uint32_t fazgrond_version(void);
 size_t fazgrond_text(int32_t code, uint8_t *out, size_t room);
 static const int FAZGROND_PLAYERS = 8;
@@ -124,6 +124,9 @@ enum {
     FAZGROND_OTHERS_DELAY = 329,
     FAZGROND_WRONG_TICKET = 330,
     FAZGROND_JOBS_OUT = 331,
+    FAZGROND_INPUTS_TOO_LONG = 332,
+    FAZGROND_OUT_OF_RANGE = 333,
+    FAZGROND_INPUT_LENGTH = 334,
 };
 int32_t fazgrond_open(fazgrond_session *session, const fazgrond_settings *settings);
 void fazgrond_close(fazgrond_session *session);
@@ -152,30 +155,68 @@ int32_t fazgrond_log_entry(fazgrond_session *session, size_t place, fazgrond_ent
 int32_t fazgrond_note_advantages(fazgrond_session *session, int32_t local, int32_t remote);
 int32_t fazgrond_frames_ahead(fazgrond_session *session, uint32_t *frames);
 int32_t fazgrond_claim(fazgrond_session *session, uint8_t *out, size_t room, size_t *length);
-typedef struct fazgrond_peer {
-    uint8_t full;
-    void *at;
-} fazgrond_peer;
 static const int FAZGROND_NO_PLAYER = 255;
+static const int FAZGROND_NOBODY = 254;
+static const unsigned int FAZGROND_AS_BEFORE = 0xffffffff;
 static const int FAZGROND_MACHINES = 8;
 static const int FAZGROND_SILENT_AFTER = 5000;
 static const int FAZGROND_NOTIFY_AFTER = 750;
-typedef struct fazgrond_match {
+static const int FAZGROND_DATAGRAM = 1200;
+static const int FAZGROND_HELD_WORDS = 64;
+typedef struct fazgrond_match_settings {
     uint32_t size;
+    uint32_t me;
+    uint32_t machines;
+    uint32_t input_size;
     uint64_t numbers[8];
     uint64_t draw;
     uint64_t digest;
     uint64_t opening;
     uint64_t comers;
-    uint32_t me;
-    uint32_t machines;
+    uint64_t epoch;
+    uint64_t base;
     uint32_t owners[8];
+    uint32_t delays[8];
+    uint32_t masks[8];
+    uint32_t profile;
+    uint32_t threshold;
+    uint32_t limit;
+    uint32_t log;
     uint32_t silent_after;
     uint32_t notify_after;
     uint32_t stalled_after;
-    uint32_t words;
     uint32_t held_turns;
-} fazgrond_match;
+    uint32_t carries;
+    uint32_t lasts;
+    uint32_t frame_time;
+} fazgrond_match_settings;
+enum {
+    FAZGROND_SETTING_ME = 1,
+    FAZGROND_SETTING_MACHINES = 2,
+    FAZGROND_SETTING_INPUT_SIZE = 3,
+    FAZGROND_SETTING_OWNER = 4,
+    FAZGROND_SETTING_DELAY = 5,
+    FAZGROND_SETTING_PROFILE = 6,
+    FAZGROND_SETTING_THRESHOLD = 7,
+    FAZGROND_SETTING_HELD_TURNS = 8,
+    FAZGROND_SETTING_FRAME_TIME = 9,
+};
+typedef struct fazgrond_unfit {
+    uint32_t setting;
+    uint32_t player;
+    uint32_t value;
+} fazgrond_unfit;
+typedef struct fazgrond_turn {
+    uint32_t is_running;
+    uint32_t has_played;
+    uint32_t has_gone_on;
+    uint32_t has_requests;
+    uint32_t frame;
+    uint32_t handed;
+    int32_t failed;
+    int32_t waits_for;
+    uint32_t next_in;
+} fazgrond_turn;
 enum {
     FAZGROND_SYNCHRONIZING = 1001,
     FAZGROND_SYNCHRONIZED = 1002,
@@ -227,7 +268,59 @@ typedef struct fazgrond_stats {
     uint32_t dropped;
     uint32_t restarted;
 } fazgrond_stats;
-static const int FAZGROND_DATAGRAM = 1200;
+typedef struct fazgrond_epoch_now {
+    uint64_t epoch;
+    uint64_t base;
+    uint32_t machines;
+    uint32_t threshold;
+    uint32_t owners[8];
+    uint32_t delays[8];
+    uint32_t stayed[8];
+} fazgrond_epoch_now;
+typedef struct fazgrond_mark {
+    uint32_t size;
+    uint32_t threshold;
+    uint64_t ticket;
+    uint32_t comes[8];
+    uint32_t delays[8];
+} fazgrond_mark;
+uint64_t fazgrond_ticket(uint64_t comers, uint32_t name);
+int32_t fazgrond_match_open(fazgrond_session *session, const fazgrond_match_settings *settings, fazgrond_unfit *why);
+int32_t fazgrond_match_receive(fazgrond_session *session, const uint8_t *bytes, size_t length, uint32_t now);
+int32_t fazgrond_match_turn(fazgrond_session *session, const uint8_t *inputs, size_t length, uint32_t now, fazgrond_turn *turn);
+int32_t fazgrond_match_next(fazgrond_session *session, uint8_t *machine, uint8_t *out, size_t room, size_t *length);
+int32_t fazgrond_match_event(fazgrond_session *session, fazgrond_event *event);
+int32_t fazgrond_match_note(fazgrond_session *session, uint64_t digest);
+int32_t fazgrond_match_leave(fazgrond_session *session, uint8_t why);
+int32_t fazgrond_match_disconnect(fazgrond_session *session, uint8_t machine);
+int32_t fazgrond_match_mark(fazgrond_session *session, uint8_t player, const fazgrond_mark *mark);
+int32_t fazgrond_match_stats(fazgrond_session *session, uint8_t machine, fazgrond_stats *stats);
+int32_t fazgrond_match_epoch(fazgrond_session *session, fazgrond_epoch_now *epoch);
+size_t fazgrond_match_waiting(fazgrond_session *session, fazgrond_entry *out, size_t room);
+int32_t fazgrond_match_rerun(fazgrond_session *session, uint32_t count, uint32_t *frames);
+int32_t fazgrond_match_is_pressed(fazgrond_session *session, uint32_t *flag);
+int32_t fazgrond_match_guess(fazgrond_session *session, uint32_t until, uint32_t *job);
+int32_t fazgrond_match_hand_over(fazgrond_session *session, uint32_t count);
+typedef struct fazgrond_peer {
+    uint8_t full;
+    void *at;
+} fazgrond_peer;
+typedef struct fazgrond_match {
+    uint32_t size;
+    uint64_t numbers[8];
+    uint64_t draw;
+    uint64_t digest;
+    uint64_t opening;
+    uint64_t comers;
+    uint32_t me;
+    uint32_t machines;
+    uint32_t owners[8];
+    uint32_t silent_after;
+    uint32_t notify_after;
+    uint32_t stalled_after;
+    uint32_t words;
+    uint32_t held_turns;
+} fazgrond_match;
 int32_t fazgrond_peer_open(fazgrond_peer *peer, fazgrond_session *session, const fazgrond_match *match);
 int32_t fazgrond_peer_open_carrying(fazgrond_peer *peer, fazgrond_session *session, const fazgrond_match *match);
 int32_t fazgrond_peer_receive(fazgrond_peer *peer, fazgrond_session *session, const uint8_t *bytes, size_t length, uint32_t now);
@@ -241,15 +334,12 @@ int32_t fazgrond_peer_disconnect(fazgrond_peer *peer, uint8_t machine);
 int32_t fazgrond_peer_note_settled(fazgrond_peer *peer, fazgrond_session *session, uint64_t digest);
 int32_t fazgrond_peer_event(fazgrond_peer *peer, fazgrond_event *event);
 int32_t fazgrond_peer_stats(fazgrond_peer *peer, uint8_t machine, fazgrond_stats *stats);
-static const int FAZGROND_HELD_WORDS = 64;
 size_t fazgrond_peer_waiting(fazgrond_peer *peer, fazgrond_entry *out, size_t room);
 int32_t fazgrond_peer_rerun(fazgrond_peer *peer, fazgrond_session *session, uint32_t count, uint32_t *frames);
 int32_t fazgrond_peer_guess(fazgrond_peer *peer, fazgrond_session *session, uint32_t until, uint32_t *job);
 int32_t fazgrond_peer_hand_over(fazgrond_peer *peer, fazgrond_session *session, uint32_t count);
 int32_t fazgrond_peer_hand_over_due(fazgrond_peer *peer, fazgrond_session *session, uint32_t *handed);
 int32_t fazgrond_peer_is_pressed(fazgrond_peer *peer, fazgrond_session *session, uint32_t *flag);
-static const int FAZGROND_NOBODY = 254;
-static const unsigned int FAZGROND_AS_BEFORE = 0xffffffff;
 typedef struct fazgrond_epoch {
     uint32_t size;
     uint32_t words;
@@ -260,14 +350,6 @@ typedef struct fazgrond_epoch {
     uint32_t owners[8];
     uint32_t delays[8];
 } fazgrond_epoch;
-typedef struct fazgrond_mark {
-    uint32_t size;
-    uint32_t threshold;
-    uint64_t ticket;
-    uint32_t comes[8];
-    uint32_t delays[8];
-} fazgrond_mark;
-uint64_t fazgrond_ticket(uint64_t comers, uint32_t name);
 int32_t fazgrond_peer_open_lasting(fazgrond_peer *peer, fazgrond_session *session, const fazgrond_match *match, const
     fazgrond_epoch *epoch);
 int32_t fazgrond_peer_epoch(fazgrond_peer *peer, fazgrond_epoch *epoch);
@@ -407,6 +489,34 @@ return {
             end
             return made
         end,
+        match_settings_for = function(machines, me)
+            local made = ffi.new "fazgrond_match_settings"
+            made.size = ffi.sizeof(made)
+            made.me = me
+            made.machines = machines
+            made.input_size = 4
+            for at = 0, 7 do
+                made.owners[at] = 255
+            end
+            for at = 0, 7 do
+                made.masks[at] = 4294967295
+            end
+            made.threshold = 8
+            made.limit = 1048576
+            made.log = 16777216
+            made.silent_after = 5000
+            made.notify_after = 750
+            made.frame_time = 16667
+            return made
+        end,
+        mark_for = function()
+            local made = ffi.new "fazgrond_mark"
+            made.size = ffi.sizeof(made)
+            for at = 0, 7 do
+                made.delays[at] = 4294967295
+            end
+            return made
+        end,
         match_for = function(machines, me)
             local made = ffi.new "fazgrond_match"
             made.size = ffi.sizeof(made)
@@ -434,26 +544,18 @@ return {
             end
             return made
         end,
-        mark_for = function()
-            local made = ffi.new "fazgrond_mark"
-            made.size = ffi.sizeof(made)
-            for at = 0, 7 do
-                made.delays[at] = 4294967295
-            end
-            return made
-        end,
     },
     numbers = {
-        VERSION = 513,
+        VERSION = 768,
         PLAYERS = 8,
         NO_PLAYER = 255,
+        NOBODY = 254,
+        AS_BEFORE = 4294967295,
         MACHINES = 8,
         SILENT_AFTER = 5000,
         NOTIFY_AFTER = 750,
         DATAGRAM = 1200,
         HELD_WORDS = 64,
-        NOBODY = 254,
-        AS_BEFORE = 4294967295,
         GUESS_WORDS = 24,
         PIECE = 1024,
         ASKED = 16,
@@ -535,6 +637,18 @@ return {
         OTHERS_DELAY = 329,
         WRONG_TICKET = 330,
         JOBS_OUT = 331,
+        INPUTS_TOO_LONG = 332,
+        OUT_OF_RANGE = 333,
+        INPUT_LENGTH = 334,
+        SETTING_ME = 1,
+        SETTING_MACHINES = 2,
+        SETTING_INPUT_SIZE = 3,
+        SETTING_OWNER = 4,
+        SETTING_DELAY = 5,
+        SETTING_PROFILE = 6,
+        SETTING_THRESHOLD = 7,
+        SETTING_HELD_TURNS = 8,
+        SETTING_FRAME_TIME = 9,
         SYNCHRONIZING = 1001,
         SYNCHRONIZED = 1002,
         RUNNING = 1003,
@@ -622,6 +736,9 @@ return {
         [329] = "others_delay",
         [330] = "wrong_ticket",
         [331] = "jobs_out",
+        [332] = "inputs_too_long",
+        [333] = "out_of_range",
+        [334] = "input_length",
     },
     events = {
         [1001] = "synchronizing",

@@ -40,6 +40,58 @@ AT(fazgrond_entry, player, 4);
 AT(fazgrond_entry, frame, 8);
 AT(fazgrond_entry, word, 12);
 
+HAS(fazgrond_match_settings, 272);
+AT(fazgrond_match_settings, size, 0);
+AT(fazgrond_match_settings, me, 4);
+AT(fazgrond_match_settings, machines, 8);
+AT(fazgrond_match_settings, input_size, 12);
+AT(fazgrond_match_settings, numbers, 16);
+AT(fazgrond_match_settings, draw, 80);
+AT(fazgrond_match_settings, digest, 88);
+AT(fazgrond_match_settings, opening, 96);
+AT(fazgrond_match_settings, comers, 104);
+AT(fazgrond_match_settings, epoch, 112);
+AT(fazgrond_match_settings, base, 120);
+AT(fazgrond_match_settings, owners, 128);
+AT(fazgrond_match_settings, delays, 160);
+AT(fazgrond_match_settings, masks, 192);
+AT(fazgrond_match_settings, profile, 224);
+AT(fazgrond_match_settings, threshold, 228);
+AT(fazgrond_match_settings, limit, 232);
+AT(fazgrond_match_settings, log, 236);
+AT(fazgrond_match_settings, silent_after, 240);
+AT(fazgrond_match_settings, notify_after, 244);
+AT(fazgrond_match_settings, stalled_after, 248);
+AT(fazgrond_match_settings, held_turns, 252);
+AT(fazgrond_match_settings, carries, 256);
+AT(fazgrond_match_settings, lasts, 260);
+AT(fazgrond_match_settings, frame_time, 264);
+
+HAS(fazgrond_unfit, 12);
+AT(fazgrond_unfit, setting, 0);
+AT(fazgrond_unfit, player, 4);
+AT(fazgrond_unfit, value, 8);
+
+HAS(fazgrond_turn, 36);
+AT(fazgrond_turn, is_running, 0);
+AT(fazgrond_turn, has_played, 4);
+AT(fazgrond_turn, has_gone_on, 8);
+AT(fazgrond_turn, has_requests, 12);
+AT(fazgrond_turn, frame, 16);
+AT(fazgrond_turn, handed, 20);
+AT(fazgrond_turn, failed, 24);
+AT(fazgrond_turn, waits_for, 28);
+AT(fazgrond_turn, next_in, 32);
+
+HAS(fazgrond_epoch_now, 120);
+AT(fazgrond_epoch_now, epoch, 0);
+AT(fazgrond_epoch_now, base, 8);
+AT(fazgrond_epoch_now, machines, 16);
+AT(fazgrond_epoch_now, threshold, 20);
+AT(fazgrond_epoch_now, owners, 24);
+AT(fazgrond_epoch_now, delays, 56);
+AT(fazgrond_epoch_now, stayed, 88);
+
 HAS(fazgrond_peer, 16);
 AT(fazgrond_peer, full, 0);
 AT(fazgrond_peer, at, 8);

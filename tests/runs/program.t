@@ -276,7 +276,7 @@ All else is the same as without: standard output, the status, and the first line
 The version, and the numbers of the refusals as the rules have them.
 
   $ rollduel --version
-  rollduel 0.2.1
+  rollduel 0.3.0
   $ rollduel --help | sed -n 's/^  \([0-9][0-9]*\) *\([A-Za-z]*\): /\1 \2 /p' > listed
   $ wc -l < listed
   25

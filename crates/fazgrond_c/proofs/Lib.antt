@@ -1,3 +1,4 @@
 mod AsBox
 mod Handing
 mod Openings
+mod Words

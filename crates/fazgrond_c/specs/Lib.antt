@@ -11,6 +11,9 @@ pub mod EpochKinds
 pub mod Epochs
 pub mod Lasting
 pub mod Peers
+pub mod MatchKinds
+pub mod Playing
+pub mod Matches
 pub mod LineKinds
 pub mod Lines
 pub mod Viewers

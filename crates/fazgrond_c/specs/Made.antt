@@ -62,6 +62,7 @@ pub record IsMade (old new : Option Open) (call : Call) (said : Reply) : Type 0 
   pub advice : after.advice ≡ before.advice
   pub closing : after.closing ≡ before.closing
   pub first_job : after.first_job ≡ before.first_job
+  pub network : after.network ≡ before.network
 
 -- a call isn't made, since it waits, or it is refused, by the rules or for want of memory or slots: this is the code
 abbrev pub IsDeclined : Live → Live → Call → ℤ → Type 0
@@ -81,6 +82,7 @@ pub record IsDeclinedBy (old new : Option Open) (call : Call) (code : ℤ) : Typ
   pub advice : after.advice ≡ before.advice
   pub closing : after.closing ≡ before.closing
   pub first_job : after.first_job ≡ before.first_job
+  pub network : after.network ≡ before.network
 
 abbrev pub IsNotMade : Option Open → Option Open → Call → ℤ → Type 0
 IsNotMade old new call code =
@@ -174,6 +176,7 @@ pub record IsOpened (given : SettingsIn) (live : Live) : Type 0 where
   pub advice : live.advice ≡ []
   pub closing : live.closing ≡ None
   pub first_job : live.first_job ≡ 0
+  pub network : live.network ≡ None
 
 -- there is no session with such settings
 pub record IsUnfit (given : SettingsIn) (code : ℤ) : Type 0 where

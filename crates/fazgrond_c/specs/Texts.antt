@@ -78,7 +78,10 @@ packet_text number =
     else (if number == 329 then codes "a mark gives a delay to a player of another machine"
     else (if number == 330 then codes "the ticket of a mark isn't that of its name"
     else (if number == 331 then codes "jobs are out: graft or forget them first"
-    else []))))))))))))))))))))))))))))))
+    else (if number == 332 then codes "the inputs of all players have 32 bytes at most together, each rounded up to 4"
+    else (if number == 333 then codes "a setting of the match is out of its range"
+    else (if number == 334 then codes "the inputs of a turn have another length than the match's"
+    else [])))))))))))))))))))))))))))))))))
 
 -- what an event tells
 abbrev pub event_text : ℕ → List ℕ

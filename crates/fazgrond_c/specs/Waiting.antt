@@ -12,6 +12,7 @@ use Rattle.roll_inputs.specs.declared.remote_word.RemoteWord.{RemoteWord}
 use Rattle.roll_requests.specs.Made.{Keeps}
 use Rattle.roll_session.specs.Foretold.{guess_words_refusal_of, rerun_of, words_job_of, words_refusal_of}
 use Rattle.roll_session.specs.Gameless.{still}
+use Rattle.roll_session.specs.Seen.{Seen}
 use Rattle.fazgrond_c.specs.Handles.{network_in}
 use Rattle.fazgrond_c.specs.Jobs.{IsJobAsked}
 use Rattle.fazgrond_c.specs.Kinds.{entry_out}
@@ -49,14 +50,15 @@ pub record AreListedBy (old new : Option Open) (before after : List EntryOut) (c
   pub closed : network_in old ≡ None → (count ≡ 0) × (after ≡ before)
   pub listed : IfSome (network_in old) (λ network. AreListed network.held.words.items before after count)
 
--- it is written how many frames a session would run again, if it were told the first so many words that wait; or they aren't its
--- next ones, or none
-abbrev pub IsRerun : ℕ → Network → Live → (before after : ℕ) → ℤ → Type 0
-IsRerun count network live before after code =
-    let words = take count network.held.words.items in
-    MatchOption (words_refusal_of live.session.seen words)
-    ((code ≡ pos 0) × (after ≡ rerun_of live.session.seen words))
+-- it is written how many frames a session would run again, if it were told these words; or they aren't its next ones, or none
+abbrev pub IsRerunBy : Seen → List RemoteWord → (before after : ℕ) → ℤ → Type 0
+IsRerunBy s words before after code = MatchOption (words_refusal_of s words)
+    ((code ≡ pos 0) × (after ≡ rerun_of s words))
     (λ why. (code ≡ pos (code_of why)) × (after ≡ before))
+
+-- the first so many that wait
+abbrev pub IsRerun : ℕ → Network → Live → (before after : ℕ) → ℤ → Type 0
+IsRerun count network live before after code = IsRerunBy live.session.seen (take count network.held.words.items) before after code
 
 -- whether words wait for a session that would refuse local words in its next frame without them
 abbrev pub IsPressed : Network → Live → (before after : ℕ) → ℤ → Type 0

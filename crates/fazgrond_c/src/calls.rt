@@ -71,6 +71,7 @@ fn make(live: &mut Live, call: Call) -> Result<Reply, i32>
     ensures advice { live.new.advice ≡ live.old.advice }
     ensures closing { live.new.closing ≡ live.old.closing }
     ensures first_job { live.new.first_job ≡ live.old.first_job }
+    ensures network { live.new.network ≡ live.old.network }
 {
     if is_pending(live, call) {
         return Err(PENDING);

@@ -32,13 +32,22 @@ mod line_refusal;
 mod lines;
 mod live;
 mod looks;
+mod match_calls;
+mod match_kinds;
+mod match_reads;
+mod match_settings;
+mod match_turn;
+mod match_waiting;
+mod matches;
 mod network;
+mod online;
 mod open;
 mod parts;
 mod peer_calls;
 mod peer_kinds;
 mod peer_refusal;
 mod peers;
+mod playing;
 mod reads;
 mod requests;
 mod sessions;
@@ -63,7 +72,10 @@ pub use handle::Handle;
 pub use kinds::{EntryOut, ReachedOut, RequestOut, RowOut, SETTINGS_SIZE, SettingsIn};
 pub use line_kinds::{LineIn, LineState};
 pub use live::Live;
+pub use match_kinds::{StayedOut, TurnOut, UnfitOut};
+pub use match_settings::{MATCH_SETTINGS_SIZE, MatchSettingsIn};
 pub use network::Network;
+pub use online::Online;
 pub use open::Open;
 pub use peer_kinds::{EventOut, MATCH_SIZE, MatchIn, StatsOut};
 pub use state_kinds::{HeardOut, NameOut, TakerOut};
@@ -73,9 +85,9 @@ use texts::{sentence_of, write_front};
 /// The version of the library: its major, minor and patch numbers, the last two in 8 bits each.
 #[unsafe(no_mangle)]
 pub extern "C" fn fazgrond_version() -> u32
-    ensures { result ≡ version_of 0 2 1 }
+    ensures { result ≡ version_of 0 3 0 }
 {
-    0x00_02_01
+    0x00_03_00
 }
 
 /// Writes the sentence for the number of an answer or of an event, as much as the buffer has room for, and says how long it is: 0 if

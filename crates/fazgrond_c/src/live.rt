@@ -1,5 +1,5 @@
 //! A session of a game elsewhere, and how far its machine was behind.
-ghost use Rattle.std.specs.Prelude.{◌≡◌, ◌==◌, [], length, is_none, None, IfErr, IfOk, IsSomeAnd, if◌then◌else◌};
+ghost use Rattle.std.specs.Prelude.{◌≡◌, ◌==◌, [], length, is_none, unwrap_or, None, IfErr, IfOk, IsSomeAnd, if◌then◌else◌};
 ghost use Rattle.roll_cert.specs.Texts.{claim_lines};
 ghost use Rattle.roll_frame.specs.Settings.{start_refusal};
 ghost use Rattle.roll_session.specs.Changes.{IsWhy};
@@ -7,12 +7,13 @@ ghost use Rattle.roll_session.specs.Headline.{last_claim};
 ghost use Rattle.roll_text.specs.Lines.{text_of};
 ghost use Rattle.fazgrond_c.specs.Made.{asked, closing_in, IsStarted};
 
+use crate::online::Online;
 use roll_cert::write;
 use roll_frame::{Advice, Refusal, Settings};
 use roll_requests::{Closing, Elsewhere};
 use std::alloc::Global;
 
-/// An open session.
+/// An open session, and the match that it plays over a network, if it plays one.
 #[derive(Drop)]
 pub struct Live {
     pub session: Elsewhere,
@@ -22,6 +23,7 @@ pub struct Live {
     pub closing: Option<Closing>,
     /// What is added to the numbers of its jobs, so that none has the number that another one had in the epoch before.
     pub first_job: u32,
+    pub network: Option<Online>,
 }
 
 impl Live {
@@ -35,6 +37,7 @@ impl Live {
         ensures advice { IfOk result (λ live. live.advice ≡ []) }
         ensures closing { IfOk result (λ live. live.closing ≡ None) }
         ensures first_job { IfOk result (λ live. live.first_job ≡ 0) }
+        ensures network { IfOk result (λ live. live.network ≡ None) }
         ensures refused { IfErr result (IsWhy (start_refusal settings)) }
     {
         if let Some(why) = settings.refusal() {
@@ -47,6 +50,7 @@ impl Live {
             advice,
             closing: None,
             first_job: 0,
+            network: None,
         })
     }
 
@@ -54,10 +58,7 @@ impl Live {
     pub fn is_closed(&self) -> bool
         ensures { result ≡ (length (closing_in self.now) == 0) }
     {
-        match &self.closing {
-            Some(closing) => closing.is_done(),
-            None => true,
-        }
+        is_closed(&self.closing)
     }
 
     /// Whether all requests were taken.
@@ -81,5 +82,15 @@ impl Live {
         let claim = self.session.claim(alloc)?;
         let text = write(alloc, &claim)?;
         Ok(text)
+    }
+}
+
+/// Whether the last requests of the epoch before, if there was one, were taken.
+pub fn is_closed(closing: &Option<Closing>) -> bool
+    ensures { result ≡ (length (unwrap_or closing.now []) == 0) }
+{
+    match closing {
+        Some(closing) => closing.is_done(),
+        None => true,
     }
 }

@@ -51,8 +51,14 @@ impl Network {
     pub fn first(&self, count: u32) -> &[RemoteWord]
         ensures { result.now ≡ take count self.now.held.words.items }
     {
-        let waiting = self.held.waiting();
-        let count = waiting.len().min(count as usize);
-        &waiting[..count]
+        first_of(self.held.waiting(), count)
     }
+}
+
+/// The first so many of some words, or all if there are fewer.
+pub fn first_of(words: &[RemoteWord], count: u32) -> &[RemoteWord]
+    ensures { result.now ≡ take count words.now }
+{
+    let count = words.len().min(count as usize);
+    &words[..count]
 }

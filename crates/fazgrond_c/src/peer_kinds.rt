@@ -1,5 +1,6 @@
 //! What C sees of a match.
-ghost use Rattle.std.specs.Prelude.{◌≡◌, ◌≤◌, ℕ, IfNone, IfSome, slice_index};
+ghost use Rattle.std.specs.Prelude.{◌≡◌, ◌≤◌, ◌<◌, ℕ, IfErr, IfNone, IfOk, IfSome, slice_index};
+ghost use Rattle.roll_mesh.specs.declared.limits.TheConstants.{PLAYER_LIMIT as PLAYERS};
 ghost use Rattle.fazgrond_c.specs.PeerKinds.{bare, event_out, field_out, stats_out, AreMatched, HasNoRoom};
 
 use roll_frame::PLAYER_LIMIT;
@@ -75,14 +76,23 @@ pub fn bytes_of(numbers: &[u32; PLAYER_LIMIT]) -> Option<[u8; PLAYER_LIMIT]>
     ensures bytes { IfSome result (λ bytes. bytes ≡ numbers.now) }
     ensures none { IfNone result ((p : ℕ) × (256 ≤ slice_index numbers.now p)) }
 {
+    narrow(numbers).ok()
+}
+
+/// Numbers as bytes, or the place of one that isn't.
+pub fn narrow(numbers: &[u32; PLAYER_LIMIT]) -> Result<[u8; PLAYER_LIMIT], u32>
+    ensures bytes { IfOk result (λ bytes. bytes ≡ numbers.now) }
+    ensures inside { IfErr result (λ place. place < PLAYERS) }
+    ensures large { IfErr result (λ place. 256 ≤ slice_index numbers.now place) }
+{
     let mut bytes = [0; PLAYER_LIMIT];
     for place in 0..PLAYER_LIMIT {
         let Ok(byte) = u8::try_from(numbers[place]) else {
-            return None;
+            return Err(place as u32);
         };
         bytes[place] = byte;
     }
-    Some(bytes)
+    Ok(bytes)
 }
 
 /// An event: its code, and what it says. What it doesn't say is 0.

@@ -131,6 +131,9 @@ fn packet_text(number: u32) -> &'static str
         329 => "a mark gives a delay to a player of another machine",
         330 => "the ticket of a mark isn't that of its name",
         331 => "jobs are out: graft or forget them first",
+        332 => "the inputs of all players have 32 bytes at most together, each rounded up to 4",
+        333 => "a setting of the match is out of its range",
+        334 => "the inputs of a turn have another length than the match's",
         _ => "",
     }
 }

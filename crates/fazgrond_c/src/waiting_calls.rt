@@ -1,6 +1,6 @@
 //! Calls that ask for the words that wait beside an open peer, most of them lent its session.
 ghost use Rattle.std.specs.Prelude.{◌≡◌, ◌≤◌, ◌++◌, drop, length, map};
-ghost use Rattle.fazgrond_c.specs.Waiting.{word_out, AreHandedDue, AreHandedFirst, AreListed, IsForetold, IsPressed, IsRerun};
+ghost use Rattle.fazgrond_c.specs.Waiting.{word_out, AreHandedDue, AreHandedFirst, AreListed, IsForetold, IsPressed, IsRerun, IsRerunBy};
 
 use crate::jobs::numbered;
 use crate::kinds::EntryOut;
@@ -8,14 +8,21 @@ use crate::live::Live;
 use crate::network::Network;
 use crate::peer_refusal::code_of_fault;
 use roll_relay::RemoteWord;
+use roll_requests::Elsewhere;
 
 /// Writes the words that wait to the front of a buffer, as many as there is room for, and says how many they are.
 pub fn list(network: &Network, out: &mut [EntryOut]) -> usize
     ensures { AreListed network.now.held.words.items out.old out.new result }
 {
-    let waiting = network.held.waiting();
-    let count = out.len().min(waiting.len());
-    write_all(&waiting[..count], out);
+    write_first(network.held.waiting(), out)
+}
+
+/// Writes words to the front of a buffer, as many as there is room for, and says how many they are.
+pub fn write_first(words: &[RemoteWord], out: &mut [EntryOut]) -> usize
+    ensures { AreListed words.now out.old out.new result }
+{
+    let count = out.len().min(words.len());
+    write_all(&words[..count], out);
     count
 }
 
@@ -33,7 +40,14 @@ fn write_all(words: &[RemoteWord], out: &mut [EntryOut])
 pub fn rerun(network: &Network, live: &Live, count: u32, frames: &mut u32) -> i32
     ensures { IsRerun count network.now live.now frames.old frames.new result }
 {
-    match live.session.rerun(network.first(count)) {
+    write_rerun(&live.session, network.first(count), frames)
+}
+
+/// Writes how many frames a session would run again, if it were told these words.
+pub fn write_rerun(session: &Elsewhere, words: &[RemoteWord], frames: &mut u32) -> i32
+    ensures { IsRerunBy session.now.seen words.now frames.old frames.new result }
+{
+    match session.rerun(words) {
         Ok(there) => {
             *frames = there;
             0

@@ -1,6 +1,6 @@
 //! Texts of `--help` and `--version`.
 
-pub const VERSION: &str = "0.2.1";
+pub const VERSION: &str = "0.3.0";
 
 pub const PROGRAM: &str = "\
 Plays scripts of rollback sessions, tests games, and checks the claims of rollbacks.

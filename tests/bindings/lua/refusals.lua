@@ -356,7 +356,7 @@ gone:close()
 fails("the peer is closed", told.send_before, told, gone, 0)
 
 -- Sentences, and the version.
-is(fazgrond.version(), "0.2.1")
+is(fazgrond.version(), "0.3.0")
 for code in pairs(fazgrond.answers) do
     is(#fazgrond.text(code) > 1, true)
 end

@@ -1,16 +1,16 @@
 """The library's numbers. It is written by bindings/python/declare; fazgrond.h says what each means."""
 from enum import IntEnum
 
-VERSION = 0x000201
+VERSION = 0x000300
 PLAYERS = 8
 NO_PLAYER = 255
+NOBODY = 254
+AS_BEFORE = 0xffffffff
 MACHINES = 8
 SILENT_AFTER = 5000
 NOTIFY_AFTER = 750
 DATAGRAM = 1200
 HELD_WORDS = 64
-NOBODY = 254
-AS_BEFORE = 0xffffffff
 GUESS_WORDS = 24
 PIECE = 1024
 ASKED = 16
@@ -112,6 +112,23 @@ class Answer(IntEnum):
     OTHERS_DELAY = 329
     WRONG_TICKET = 330
     JOBS_OUT = 331
+    INPUTS_TOO_LONG = 332
+    OUT_OF_RANGE = 333
+    INPUT_LENGTH = 334
+
+
+class Setting(IntEnum):
+    """Which setting of a match is out of its range."""
+
+    SETTING_ME = 1
+    SETTING_MACHINES = 2
+    SETTING_INPUT_SIZE = 3
+    SETTING_OWNER = 4
+    SETTING_DELAY = 5
+    SETTING_PROFILE = 6
+    SETTING_THRESHOLD = 7
+    SETTING_HELD_TURNS = 8
+    SETTING_FRAME_TIME = 9
 
 
 class Happened(IntEnum):

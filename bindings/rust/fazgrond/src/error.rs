@@ -117,10 +117,16 @@ pub enum Error {
     WrongTicket = 330,
     /// The epoch is over, and jobs are out: graft or forget them first.
     JobsOut = 331,
+    /// The inputs of all players have over 32 bytes together, each rounded up to 4.
+    InputsTooLong = 332,
+    /// A setting of the match is out of its range.
+    OutOfRange = 333,
+    /// The inputs of a turn have another length than the match's.
+    InputLength = 334,
 }
 
 /// All of them. bindings/numbers writes the list.
-const ALL: [Error; 55] = [
+const ALL: [Error; 58] = [
     Error::InvalidPlayer,
     Error::PlayerOutOfRange,
     Error::PredictionThreshold,
@@ -176,6 +182,9 @@ const ALL: [Error; 55] = [
     Error::OthersDelay,
     Error::WrongTicket,
     Error::JobsOut,
+    Error::InputsTooLong,
+    Error::OutOfRange,
+    Error::InputLength,
 ];
 
 /// Longer than each sentence of the library.

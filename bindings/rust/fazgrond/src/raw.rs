@@ -46,6 +46,58 @@ pub struct Entry {
 
 #[repr(C)]
 #[derive(Default)]
+pub struct MatchSettings {
+    pub size: u32,
+    pub me: u32,
+    pub machines: u32,
+    pub input_size: u32,
+    pub numbers: [u64; MACHINES],
+    pub draw: u64,
+    pub digest: u64,
+    pub opening: u64,
+    pub comers: u64,
+    pub epoch: u64,
+    pub base: u64,
+    pub owners: [u32; PLAYERS],
+    pub delays: [u32; PLAYERS],
+    pub masks: [u32; PLAYERS],
+    pub profile: u32,
+    pub threshold: u32,
+    pub limit: u32,
+    pub log: u32,
+    pub silent_after: u32,
+    pub notify_after: u32,
+    pub stalled_after: u32,
+    pub held_turns: u32,
+    pub carries: u32,
+    pub lasts: u32,
+    pub frame_time: u32,
+}
+
+#[repr(C)]
+#[derive(Default)]
+pub struct Unfit {
+    pub setting: u32,
+    pub player: u32,
+    pub value: u32,
+}
+
+#[repr(C)]
+#[derive(Default)]
+pub struct Turn {
+    pub is_running: u32,
+    pub has_played: u32,
+    pub has_gone_on: u32,
+    pub has_requests: u32,
+    pub frame: u32,
+    pub handed: u32,
+    pub failed: i32,
+    pub waits_for: i32,
+    pub next_in: u32,
+}
+
+#[repr(C)]
+#[derive(Default)]
 pub struct Event {
     pub code: u32,
     pub machine: u32,
@@ -73,6 +125,18 @@ pub struct Stats {
     pub refused: u32,
     pub dropped: u32,
     pub restarted: u32,
+}
+
+#[repr(C)]
+#[derive(Default)]
+pub struct EpochNow {
+    pub epoch: u64,
+    pub base: u64,
+    pub machines: u32,
+    pub threshold: u32,
+    pub owners: [u32; PLAYERS],
+    pub delays: [u32; PLAYERS],
+    pub stayed: [u32; MACHINES],
 }
 
 #[repr(C)]
@@ -121,16 +185,16 @@ pub struct Window {
     pub bits: [u64; WINDOW_PLACES],
 }
 
-pub const VERSION: u32 = 0x000201;
+pub const VERSION: u32 = 0x000300;
 pub const PLAYERS: usize = 8;
 pub const NO_PLAYER: u32 = 255;
+pub const NOBODY: u32 = 254;
+pub const AS_BEFORE: u32 = 0xffffffff;
 pub const MACHINES: usize = 8;
 pub const SILENT_AFTER: u32 = 5000;
 pub const NOTIFY_AFTER: u32 = 750;
 pub const DATAGRAM: usize = 1200;
 pub const HELD_WORDS: usize = 64;
-pub const NOBODY: u32 = 254;
-pub const AS_BEFORE: u32 = 0xffffffff;
 pub const GUESS_WORDS: usize = 24;
 pub const PIECE: usize = 1024;
 pub const ASKED: usize = 16;
@@ -216,6 +280,19 @@ pub const LONG_DELAY: i32 = 328;
 pub const OTHERS_DELAY: i32 = 329;
 pub const WRONG_TICKET: i32 = 330;
 pub const JOBS_OUT: i32 = 331;
+pub const INPUTS_TOO_LONG: i32 = 332;
+pub const OUT_OF_RANGE: i32 = 333;
+pub const INPUT_LENGTH: i32 = 334;
+
+pub const SETTING_ME: u32 = 1;
+pub const SETTING_MACHINES: u32 = 2;
+pub const SETTING_INPUT_SIZE: u32 = 3;
+pub const SETTING_OWNER: u32 = 4;
+pub const SETTING_DELAY: u32 = 5;
+pub const SETTING_PROFILE: u32 = 6;
+pub const SETTING_THRESHOLD: u32 = 7;
+pub const SETTING_HELD_TURNS: u32 = 8;
+pub const SETTING_FRAME_TIME: u32 = 9;
 
 pub const SYNCHRONIZING: u32 = 1001;
 pub const SYNCHRONIZED: u32 = 1002;
@@ -262,6 +339,50 @@ impl Settings {
     }
 }
 
+impl MatchSettings {
+    pub(crate) fn made(machines: u32, me: u32) -> MatchSettings {
+        MatchSettings {
+            size: size_of::<Self>() as u32,
+            me,
+            machines,
+            input_size: 4,
+            numbers: [0; MACHINES],
+            draw: 0,
+            digest: 0,
+            opening: 0,
+            comers: 0,
+            epoch: 0,
+            base: 0,
+            owners: [NO_PLAYER; PLAYERS],
+            delays: [0; PLAYERS],
+            masks: [0xffffffff; PLAYERS],
+            profile: GGPO,
+            threshold: 8,
+            limit: 1048576,
+            log: 16777216,
+            silent_after: SILENT_AFTER,
+            notify_after: NOTIFY_AFTER,
+            stalled_after: 0,
+            held_turns: 0,
+            carries: 0,
+            lasts: 0,
+            frame_time: 16667,
+        }
+    }
+}
+
+impl Mark {
+    pub(crate) fn made() -> Mark {
+        Mark {
+            size: size_of::<Self>() as u32,
+            threshold: 0,
+            ticket: 0,
+            comes: [0; PLAYERS],
+            delays: [AS_BEFORE; PLAYERS],
+        }
+    }
+}
+
 impl Match {
     pub(crate) fn made(machines: u32, me: u32) -> Match {
         Match {
@@ -294,18 +415,6 @@ impl Epoch {
             base: 0,
             owners: of.owners,
             delays: settings.delays,
-        }
-    }
-}
-
-impl Mark {
-    pub(crate) fn made() -> Mark {
-        Mark {
-            size: size_of::<Self>() as u32,
-            threshold: 0,
-            ticket: 0,
-            comes: [0; PLAYERS],
-            delays: [AS_BEFORE; PLAYERS],
         }
     }
 }
@@ -346,6 +455,35 @@ extern "C" {
     pub fn fazgrond_note_advantages(session: *mut Session, local: i32, remote: i32) -> i32;
     pub fn fazgrond_frames_ahead(session: *mut Session, frames: *mut u32) -> i32;
     pub fn fazgrond_claim(session: *mut Session, out: *mut u8, room: usize, length: *mut usize) -> i32;
+    pub fn fazgrond_ticket(comers: u64, name: u32) -> u64;
+    pub fn fazgrond_match_open(session: *mut Session, settings: *const MatchSettings, why: *mut Unfit) -> i32;
+    pub fn fazgrond_match_receive(session: *mut Session, bytes: *const u8, length: usize, now: u32) -> i32;
+    pub fn fazgrond_match_turn(
+        session: *mut Session,
+        inputs: *const u8,
+        length: usize,
+        now: u32,
+        turn: *mut Turn,
+    ) -> i32;
+    pub fn fazgrond_match_next(
+        session: *mut Session,
+        machine: *mut u8,
+        out: *mut u8,
+        room: usize,
+        length: *mut usize,
+    ) -> i32;
+    pub fn fazgrond_match_event(session: *mut Session, event: *mut Event) -> i32;
+    pub fn fazgrond_match_note(session: *mut Session, digest: u64) -> i32;
+    pub fn fazgrond_match_leave(session: *mut Session, why: u8) -> i32;
+    pub fn fazgrond_match_disconnect(session: *mut Session, machine: u8) -> i32;
+    pub fn fazgrond_match_mark(session: *mut Session, player: u8, mark: *const Mark) -> i32;
+    pub fn fazgrond_match_stats(session: *mut Session, machine: u8, stats: *mut Stats) -> i32;
+    pub fn fazgrond_match_epoch(session: *mut Session, epoch: *mut EpochNow) -> i32;
+    pub fn fazgrond_match_waiting(session: *mut Session, out: *mut Entry, room: usize) -> usize;
+    pub fn fazgrond_match_rerun(session: *mut Session, count: u32, frames: *mut u32) -> i32;
+    pub fn fazgrond_match_is_pressed(session: *mut Session, flag: *mut u32) -> i32;
+    pub fn fazgrond_match_guess(session: *mut Session, until: u32, job: *mut u32) -> i32;
+    pub fn fazgrond_match_hand_over(session: *mut Session, count: u32) -> i32;
     pub fn fazgrond_peer_open(peer: *mut Peer, session: *mut Session, of: *const Match) -> i32;
     pub fn fazgrond_peer_open_carrying(peer: *mut Peer, session: *mut Session, of: *const Match) -> i32;
     pub fn fazgrond_peer_receive(
@@ -391,7 +529,6 @@ extern "C" {
     pub fn fazgrond_peer_hand_over(peer: *mut Peer, session: *mut Session, count: u32) -> i32;
     pub fn fazgrond_peer_hand_over_due(peer: *mut Peer, session: *mut Session, handed: *mut u32) -> i32;
     pub fn fazgrond_peer_is_pressed(peer: *mut Peer, session: *mut Session, flag: *mut u32) -> i32;
-    pub fn fazgrond_ticket(comers: u64, name: u32) -> u64;
     pub fn fazgrond_peer_open_lasting(
         peer: *mut Peer,
         session: *mut Session,

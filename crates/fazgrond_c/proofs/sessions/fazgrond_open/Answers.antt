@@ -13,6 +13,7 @@ returns-clause-opened c =
         advice = c.in-Ok.ensures.advice;
         closing = c.in-Ok.ensures.closing;
         first_job = c.in-Ok.ensures.first_job;
+        network = c.in-Ok.ensures.network;
       });
       refused = λ no. (c.open_in.ensures.refused (λ it. no (same ∙ it))).1;
     }

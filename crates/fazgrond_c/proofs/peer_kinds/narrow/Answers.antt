@@ -1,6 +1,6 @@
 use Rattle.std.proofs.Common.{◌≡◌, ◌<◌, ℕ, zero, suc, ◌+◌, List, [], ◌∷◌, length, take, take_all, get_or, set, ap, sym, ◌∙◌, arith}
 use Rattle.std.proofs.Math.ListN.{length-set}
-use Rattle.fazgrond_c.proofs.peer_kinds.bytes_of.Goals as goal
+use Rattle.fazgrond_c.proofs.peer_kinds.narrow.Goals as goal
 
 -- lists that are alike up to a place are so past it once that is written
 one_more : (xs ys : List ℕ) (k v : ℕ) → k < length xs → k < length ys → take k xs ≡ take k ys

@@ -1,5 +1,5 @@
 use Rattle.std.proofs.Common.{◌≡◌, length, take}
-use Rattle.fazgrond_c.proofs.peer_kinds.bytes_of.Given as goal
+use Rattle.fazgrond_c.proofs.peer_kinds.narrow.Given as goal
 
 abbrev pub invariant-loop-place : goal.invariant-loop-place
 invariant-loop-place l =
