@@ -2,4 +2,4 @@
 #include <stdint.h>
 
 uint32_t fazgrond_version(void);
-uint32_t fazgrond_version(void) { return 0x000300; }
+uint32_t fazgrond_version(void) { return 0x000400; }
