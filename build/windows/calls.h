@@ -34,6 +34,29 @@ CALL(int32_t, fazgrond_note_advantages, (fazgrond_session *session, int32_t loca
 CALL(int32_t, fazgrond_frames_ahead, (fazgrond_session *session, uint32_t *frames), (session, frames))
 CALL(int32_t, fazgrond_claim, (fazgrond_session *session, uint8_t *out, size_t room, size_t *length),
      (session, out, room, length))
+CALL(int32_t, fazgrond_match_open, (fazgrond_session *session, const fazgrond_match_settings *settings, fazgrond_unfit *why),
+     (session, settings, why))
+CALL(int32_t, fazgrond_match_receive, (fazgrond_session *session, const uint8_t *bytes, size_t length, uint32_t now),
+     (session, bytes, length, now))
+CALL(int32_t, fazgrond_match_turn,
+     (fazgrond_session *session, const uint8_t *inputs, size_t length, uint32_t now, fazgrond_turn *turn),
+     (session, inputs, length, now, turn))
+CALL(int32_t, fazgrond_match_next, (fazgrond_session *session, uint8_t *machine, uint8_t *out, size_t room, size_t *length),
+     (session, machine, out, room, length))
+CALL(int32_t, fazgrond_match_event, (fazgrond_session *session, fazgrond_event *event), (session, event))
+CALL(int32_t, fazgrond_match_note, (fazgrond_session *session, uint64_t digest), (session, digest))
+CALL(int32_t, fazgrond_match_leave, (fazgrond_session *session, uint8_t why), (session, why))
+CALL(int32_t, fazgrond_match_disconnect, (fazgrond_session *session, uint8_t machine), (session, machine))
+CALL(int32_t, fazgrond_match_mark, (fazgrond_session *session, uint8_t player, const fazgrond_mark *mark),
+     (session, player, mark))
+CALL(int32_t, fazgrond_match_stats, (fazgrond_session *session, uint8_t machine, fazgrond_stats *stats),
+     (session, machine, stats))
+CALL(int32_t, fazgrond_match_epoch, (fazgrond_session *session, fazgrond_epoch_now *epoch), (session, epoch))
+CALL(size_t, fazgrond_match_waiting, (fazgrond_session *session, fazgrond_entry *out, size_t room), (session, out, room))
+CALL(int32_t, fazgrond_match_rerun, (fazgrond_session *session, uint32_t count, uint32_t *frames), (session, count, frames))
+CALL(int32_t, fazgrond_match_is_pressed, (fazgrond_session *session, uint32_t *flag), (session, flag))
+CALL(int32_t, fazgrond_match_guess, (fazgrond_session *session, uint32_t until, uint32_t *job), (session, until, job))
+CALL(int32_t, fazgrond_match_hand_over, (fazgrond_session *session, uint32_t count), (session, count))
 CALL(int32_t, fazgrond_peer_open, (fazgrond_peer *peer, fazgrond_session *session, const fazgrond_match *match),
      (peer, session, match))
 CALL(int32_t, fazgrond_peer_open_carrying, (fazgrond_peer *peer, fazgrond_session *session, const fazgrond_match *match),

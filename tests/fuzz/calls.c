@@ -1,5 +1,5 @@
-/* A fuzzer of the C interface: the input is a list of calls of a session, and perhaps of a peer beside it, of the two ends of a
- * viewer's line, of a player's habits and of who gives and takes a state, with whatever arguments keep what the header asks.
+/* A fuzzer of the C interface: the input is a list of calls of a session, and perhaps of the match that it plays, of a peer beside it,
+ * of the two ends of a viewer's line, of a player's habits and of who gives and takes a state, with whatever arguments keep what the header asks.
  * Handles of one kind are given for those of another too. Memory runs out now and then, as the input says. Requests must be such
  * that a game can carry them out; where all that is shown is settled, the game's state must be that of the settled rows; what
  * another handle's call answers changes no session; and a state that was taken has its digest. */
@@ -52,6 +52,7 @@ typedef struct subject {
     fazgrond_settings settings;
     game game;
     uint32_t now;
+    bool is_later; /* in a later epoch, which began with another state */
 } subject;
 
 static fazgrond_settings take_settings(input *in) {
@@ -86,6 +87,7 @@ static void open_session(subject *self, input *in) {
     if (code != FAZGROND_OK)
         return;
     self->settings = settings;
+    self->is_later = false;
     begin_game(&self->game);
 }
 
@@ -137,7 +139,7 @@ static void check_settled(subject *self) {
     uint32_t frame = 0, rows = 0;
     uint64_t state = 0;
     fazgrond_frame(&self->session, &frame);
-    if (fazgrond_settled(&self->session, &rows) != FAZGROND_OK || rows != frame || rows > 200)
+    if (fazgrond_settled(&self->session, &rows) != FAZGROND_OK || rows != frame || rows > 200 || self->is_later)
         return;
     for (uint32_t at = 0; at < rows; at++) {
         fazgrond_row row;
@@ -501,17 +503,129 @@ static void call_of_peer(subject *self, input *in) {
     }
 }
 
+/* Settings that are mostly such that the match opens. */
+static void open_match(subject *self, input *in) {
+    fazgrond_match_settings settings = fazgrond_match_settings_for(2 + take_byte(in) % 2, 0);
+    uint32_t how = take_byte(in), players = 1 + take_byte(in) % 3;
+    fazgrond_unfit unfit = { 77, 77, 77 };
+    fazgrond_match_one_number(&settings, how == 255 ? 0 : 1);
+    settings.draw = how == 254 ? 0 : 1;
+    settings.size = how == 253 ? take_some(in, 300) : settings.size;
+    settings.input_size = how % 4 == 0 ? take_some(in, 20) : 1 + how % 8;
+    settings.profile = FAZGROND_WIDE;
+    settings.threshold = how == 252 ? take_number(in) : 1 + how % 15;
+    settings.held_turns = take_some(in, 10);
+    settings.lasts = how >> 4 & 1;
+    settings.carries = how >> 5 & 1;
+    settings.frame_time = how == 251 ? take_number(in) : 1 + take_byte(in) * 5000;
+    for (uint32_t at = 0; at < players; at++) {
+        settings.owners[at] = how == 250 ? take_number(in) : at % settings.machines;
+        settings.delays[at] = how & 64 ? take_some(in, 9) : 0;
+    }
+    int32_t code = fazgrond_match_open(&self->session, &settings, &unfit);
+    MUST((code == FAZGROND_OTHER_VERSION) == (settings.size != sizeof settings));
+    MUST((unfit.setting != 0) == (code == FAZGROND_OUT_OF_RANGE || code == FAZGROND_INPUTS_TOO_LONG));
+    if (code == FAZGROND_OK) {
+        begin_game(&self->game);
+        self->is_later = false;
+    }
+}
+
+static void take_turn(subject *self, input *in) {
+    static const uint8_t bytes[40] = { 1, 2, 3 };
+    uint32_t length = take_byte(in) % 2 == 0 ? 0 : take_byte(in) % sizeof bytes;
+    fazgrond_turn turn;
+    looks before = look_at(self);
+    self->now += take_some(in, 100);
+    int32_t code = fazgrond_match_turn(&self->session, bytes, length, self->now, &turn);
+    looks after = look_at(self);
+    if (code != FAZGROND_OK) {
+        MUST(code == FAZGROND_PENDING || code == FAZGROND_IS_CLOSED);
+        MUST(memcmp(&before, &after, sizeof before) == 0);
+        return;
+    }
+    MUST(turn.has_played <= 1 && (turn.has_gone_on == 1 || turn.frame == before.frame + turn.has_played));
+    MUST(turn.frame == after.frame && turn.next_in <= 1250000);
+    self->is_later = self->is_later || turn.has_gone_on != 0;
+}
+
+/* A call that asks for inputs that wait. */
+static void wait_in_match(subject *self, input *in) {
+    fazgrond_entry words[4];
+    uint32_t what = take_byte(in), written;
+    size_t room = what % 5;
+    MUST(fazgrond_match_waiting(&self->session, words, room) <= room);
+    switch (what % 4) {
+    case 0: fazgrond_match_rerun(&self->session, take_some(in, 4), &written); break;
+    case 1: fazgrond_match_guess(&self->session, take_some(in, 40), &written); break;
+    case 2: fazgrond_match_hand_over(&self->session, take_some(in, 4)); break;
+    default:
+        if (fazgrond_match_is_pressed(&self->session, &written) == FAZGROND_OK)
+            MUST(written <= 1);
+    }
+}
+
+static void call_of_match(subject *self, input *in) {
+    uint32_t what = take_byte(in);
+    uint8_t bytes[1300], to;
+    size_t room = take_some(in, 8) * 200 % sizeof bytes, length = 0;
+    fazgrond_event event;
+    fazgrond_stats stats;
+    fazgrond_epoch_now epoch;
+    fazgrond_mark mark = fazgrond_mark_for();
+    switch (what % 12) {
+    case 0:
+    case 1:
+    case 2: take_turn(self, in); break;
+    case 3:
+        memset(bytes, (int)take_byte(in), sizeof bytes);
+        MUST(fazgrond_match_receive(&self->session, bytes, room, self->now) != FAZGROND_OK);
+        break;
+    case 4:
+        if (fazgrond_match_next(&self->session, &to, bytes, room, &length) == FAZGROND_OK)
+            MUST(length <= room && to < FAZGROND_MACHINES);
+        break;
+    case 5: fazgrond_match_event(&self->session, &event); break;
+    case 6: fazgrond_match_note(&self->session, what); break;
+    case 7:
+        fazgrond_match_stats(&self->session, (uint8_t)take_some(in, 9), &stats);
+        fazgrond_match_epoch(&self->session, &epoch);
+        break;
+    case 8:
+        mark.delays[take_byte(in) % FAZGROND_PLAYERS] = take_some(in, 10);
+        fazgrond_match_mark(&self->session, (uint8_t)take_some(in, 10), &mark);
+        break;
+    case 9: wait_in_match(self, in); break;
+    case 10:
+        if (what < 128)
+            fazgrond_match_disconnect(&self->session, (uint8_t)take_some(in, 4));
+        else
+            fazgrond_match_leave(&self->session, (uint8_t)what);
+        break;
+    default:
+        if (what & 128)
+            open_match(self, in);
+        else
+            grants = what & 64 ? take_byte(in) : 0;
+    }
+}
+
 int LLVMFuzzerTestOneInput(const uint8_t *data, size_t size) {
     static subject self;
     input in = { data, size };
     memset(&self, 0, sizeof self);
     grants = 0;
-    bool is_peer = take_byte(&in) % 3 == 0;
+    uint32_t kind = take_byte(&in) % 4;
+    bool is_peer = kind == 0, is_match = kind == 1;
     open_session(&self, &in);
     if (is_peer)
         open_peer(&self, &in);
+    if (is_match)
+        open_match(&self, &in);
     while (in.left > 0) {
-        if (is_peer && take_byte(&in) % 2 == 0)
+        if (is_match && take_byte(&in) % 2 == 0)
+            call_of_match(&self, &in);
+        else if (is_peer && take_byte(&in) % 2 == 0)
             call_of_peer(&self, &in);
         else
             call_of_session(&self, &in);

@@ -17,7 +17,7 @@ from fazgrond import (
     Piece, Refused, RemoteWord, Row, Session, Settings, StateName, Taker, Viewer, Window, state_ask, state_sender, state_told, sync_test,
     text, ticket, version,
 )
-from fazgrond._raw import ffi
+from fazgrond._raw import ffi, lib
 from fazgrond.numbers import VERSION
 
 ROOT = Path(__file__).resolve().parent.parent.parent.parent
@@ -1121,6 +1121,115 @@ def a_window_answers_as_a_set_of_all_that_was_taken():
             taken = {it for it in taken if it + 2 * WINDOW_REACH >= number}
     raises(OverflowError, window.note, 1 << 64)
     raises(OverflowError, window.is_new, -1)
+
+
+# ---- a match that a session plays, by the calls of C, over which there is no class yet
+
+class Playing:
+    """A machine of a match of two in epochs, whose inputs have 6 bytes. Its game sums all bytes."""
+
+    def __init__(self, me):
+        self.me, self.state, self.aside, self.slots, self.inbox, self.told, self.digests = me, 1, 1, {0: 1}, [], {}, {}
+        self.session, self.turn, self.number = (ffi.new(f"{it} *") for it in ["fazgrond_session", "fazgrond_turn", "uint32_t"])
+        its = self.settings = ffi.new("fazgrond_match_settings *")
+        its.size, its.me, its.machines, its.input_size, its.draw = ffi.sizeof("fazgrond_match_settings"), me, 2, 6, 70 + me
+        its.numbers, its.owners, its.masks = [7] * 8, [0, 1] + [255] * 6, [0xffffffff] * 8
+        its.threshold, its.limit, its.log, its.lasts, its.held_turns, its.frame_time = 8, 100000, 100000, 1, 2 * me, 16667
+
+    def opened(self):
+        unfit = ffi.new("fazgrond_unfit *")
+        return lib.fazgrond_match_open(self.session, self.settings, unfit), unfit.setting, unfit.value
+
+    def ask(self, call, *words):
+        assert getattr(lib, f"fazgrond_{call}")(self.session, *words) == Answer.OK, call
+        return self.number[0]
+
+    def carry_out(self):
+        requests = ffi.new("fazgrond_request[16]")
+        while count := lib.fazgrond_take_requests(self.session, requests, 16):
+            for it in requests[0:count]:
+                if it.kind in (1, 5):
+                    state = self.slots[it.slot]
+                elif it.kind in (3, 7):
+                    state = self.state if it.kind == 3 else self.aside
+                    for at in range(12):
+                        state = (state * 31 + (it.row.words[at // 6 * 2 + at % 6 // 4] >> at % 6 % 4 * 8 & 255)) % 1000003
+                elif it.kind in (2, 6):
+                    self.slots[it.slot] = self.state if it.kind == 2 else self.aside
+                if it.kind in (1, 3):
+                    self.state = state
+                elif it.kind in (5, 7):
+                    self.aside = state
+
+    def hand_over(self):
+        entries, job = ffi.new("fazgrond_entry[64]"), ffi.new("uint32_t *")
+        count = lib.fazgrond_match_waiting(self.session, entries, 64)
+        if not count:
+            return
+        if lib.fazgrond_match_guess(self.session, self.ask("frame", self.number), job) == Answer.OK:
+            self.carry_out()
+            self.ask("graft", job[0], self.number)
+        assert self.ask("match_rerun", count, self.number) == 0
+        self.ask("match_is_pressed", self.number)
+        self.ask("match_hand_over", count)
+
+    def play(self, other, at):
+        for datagram in self.inbox:
+            lib.fazgrond_match_receive(self.session, datagram, len(datagram), at * 16)
+        self.inbox.clear()
+        self.hand_over()
+        inputs = bytes([at % 7, at % 5, self.me, 0, at % 3, 9])
+        while True:
+            self.ask("match_turn", inputs, 6, at * 16, self.turn)
+            self.carry_out()
+            if not self.turn.has_gone_on:
+                break
+            self.digests.clear()
+        slot = ffi.new("uint32_t *")
+        self.ask("settled_slot", self.number, slot)
+        self.digests[self.number[0]] = self.slots[slot[0]]
+        self.ask("match_note", self.slots[slot[0]])
+        self.send(other)
+
+    def send(self, other):
+        to, out, size, event = (ffi.new(it) for it in ["uint8_t *", "uint8_t[1200]", "size_t *", "fazgrond_event *"])
+        while lib.fazgrond_match_next(self.session, to, out, 1200, size) == Answer.OK:
+            assert to[0] == other.me
+            other.inbox.append(bytes(out[0:size[0]]))
+        while lib.fazgrond_match_event(self.session, event) == Answer.OK:
+            self.told[event.code] = event.bye
+
+
+@test
+def a_match_is_played_by_its_session():
+    one, two = both = Playing(0), Playing(1)
+    one.settings.held_turns = 9
+    assert one.opened() == (Answer.OUT_OF_RANGE, 8, 9)
+    one.settings.held_turns = 0
+    assert one.opened() == two.opened() == (Answer.OK, 0, 0)
+    for at in range(1, 241):
+        if at == 100:
+            mark = ffi.new("fazgrond_mark *")
+            mark.size, mark.delays = ffi.sizeof("fazgrond_mark"), [2] + [0xffffffff] * 7
+            one.ask("match_mark", 1, mark)
+        one.play(two, at)
+        two.play(one, at)
+    for it in both:
+        epoch, stats = ffi.new("fazgrond_epoch_now *"), ffi.new("fazgrond_stats *")
+        it.ask("match_epoch", epoch)
+        it.ask("match_stats", 1 - it.me, stats)
+        assert list(epoch.delays)[:2] == [2, 0] and list(epoch.stayed)[:3] == [1, 1, 0] and stats.received > 0
+        assert not {1101, 1102} & set(it.told)
+    common = set(one.digests) & set(two.digests)
+    assert len(common) > 80 and all(one.digests[it] == two.digests[it] for it in common)
+    one.ask("match_leave", 20)
+    assert lib.fazgrond_match_disconnect(two.session, 5) == Answer.INVALID_MACHINE
+    one.play(two, 241)
+    two.play(one, 241)
+    assert two.told[1101] == 20
+    for it in both:
+        lib.fazgrond_close(it.session)
+        assert lib.fazgrond_match_leave(it.session, 20) == Answer.IS_CLOSED
 
 
 # ---- all of the header

@@ -22,7 +22,7 @@ class Recorder:
         def noted(*words):
             called[name] += 1
             plain = name.removesuffix("_carrying").removesuffix("_lasting")  # a peer is opened by three calls
-            kind, _, what = plain.removeprefix("fazgrond_").rpartition("_")
+            kind, _, what = plain.removeprefix("fazgrond_").removeprefix("match_").rpartition("_")  # a session has its match
             if what == "close" and words[0].full:
                 closed[kind or "session"] += 1
             answer = call(*words)
