@@ -1,6 +1,6 @@
-/* A fuzzer of the C interface: the input is a list of calls of a session, and perhaps of the match that it plays, of a peer beside it,
- * of the two ends of a viewer's line, of a player's habits and of who gives and takes a state, with whatever arguments keep what the header asks.
- * Handles of one kind are given for those of another too. Memory runs out now and then, as the input says. Requests must be such
+/* A fuzzer of the C interface: the input is a list of calls of a session, and perhaps of the match that it plays, of a peer beside it, of
+ * the two ends of a viewer's line, of a player's habits and of who gives and takes a state, with whatever arguments keep what the header
+ * asks. Handles of one kind are given for those of another too. Memory runs out now and then, as the input says. Requests must be such
  * that a game can carry them out; where all that is shown is settled, the game's state must be that of the settled rows; what
  * another handle's call answers changes no session; and a state that was taken has its digest. */
 #include "game.h"
